@@ -1,0 +1,53 @@
+-- Definitions: a crew on a tree: the steps that it followed, what it heard and was told. A reader must believe this file.
+use mathlib.Core.Path.{_≡_}
+use mathlib.Core.Logic.{_↔_, _⊎_}
+use mathlib.Core.List.{List, [], _∷_}
+use mathlib.Core.Bool.{Bool, true}
+use Prim.Native.Nat.{ℕ, _<_}
+use Rattle.network.specs.Mask.{bit}
+use Rattle.network.specs.Network.{Network}
+use Rattle.network.specs.Game.{State, Move, hears, Outcome, after}
+use Rattle.network.specs.Tree.{Tree, done, node}
+
+-- an instruction that was followed, and the outcome then reported
+pub record Step : Type 0 where
+  pub instruction : Move
+  pub report : ℕ
+
+-- the steps lead down the tree: each follows the instruction at its node, and reports an outcome of it
+unfoldable pub Follows : Network → Tree → List Step → Type 0
+Follows net t [] = Unit {0}
+Follows net done (st ∷ log) = ⊥
+Follows net (node m next) (st ∷ log) = (st .instruction ≡ m) × Outcome net m (st .report) × Follows net (next (st .report)) log
+
+-- they lead to the end: the last node of the path has been reported (document 01: done)
+unfoldable pub AtEnd : Tree → List Step → Type 0
+AtEnd done [] = Unit {0}
+AtEnd done (st ∷ log) = ⊥
+AtEnd (node m next) [] = ⊥
+AtEnd (node m next) (st ∷ log) = AtEnd (next (st .report)) log
+
+-- the state that they lead to
+unfoldable pub stateAfter : Network → State → List Step → State
+stateAfter net s [] = s
+stateAfter net s (st ∷ log) = stateAfter net (after net s (st .instruction) (st .report)) log
+
+-- some step has P
+unfoldable pub Some : (Step → Type 0) → List Step → Type 0
+Some P [] = ⊥
+Some P (st ∷ log) = P st ⊎ Some P log
+
+-- by this step the condition l, with the value v, is heard from a slot before u
+abbrev pub Hears : Network → ℕ → ℕ → Bool → Step → Type 0
+Hears net u l v st = (st .instruction .slot < u) × (hears net (st .instruction) l ≡ true) × (bit (st .report) l ≡ v)
+
+-- two crews heard alike before slot u: the conditions heard from earlier slots, and their values, are the same for both
+abbrev pub HeardAlike : Network → List Step → List Step → ℕ → Type 0
+HeardAlike net log log′ u = (l : ℕ) (v : Bool) → Some (Hears net u l v) log ↔ Some (Hears net u l v) log′
+
+-- They were told alike in slot u (document 01's term): both followed an instruction of that slot with the same points and choices, or
+-- neither followed one.
+abbrev pub ToldAlike : List Step → List Step → ℕ → Type 0
+ToldAlike log log′ u =
+    ((m : Move) × (m .slot ≡ u) × Some (λ st. st .instruction ≡ m) log × Some (λ st. st .instruction ≡ m) log′)
+    ⊎ ((¬ Some (λ st. st .instruction .slot ≡ u) log) × (¬ Some (λ st. st .instruction .slot ≡ u) log′))

@@ -1,0 +1,10 @@
+-- Definitions: the modules of this folder, in the order in which they are read. A reader must believe them.
+pub mod Mask
+pub mod Network
+pub mod Strategy
+pub mod Game
+pub mod Tree
+pub mod FirstMoves
+pub mod Search
+pub mod Policy
+pub mod Crew
