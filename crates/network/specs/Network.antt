@@ -45,17 +45,17 @@ Scenario = ℕ → Bool
 abbrev pub combined : Network → ℕ → ℕ → Scenario
 combined net cs ds l = cond (net .is-decision l) (bit ds l) (bit cs l)
 
--- s ⊨ label: each letter that is needed has the value shown
-unfoldable pub holds : Network → Scenario → Label → Bool
-holds net s label = allBelow (net .letters) (λ l. not (bit (label .need) l) || Bool·beq (s l) (bit (label .truth) l))
+-- s ⊨ label: each letter that is needed has the value shown. (A mask is a byte.)
+unfoldable pub holds : Scenario → Label → Bool
+holds s label = allBelow 8 (λ l. not (bit (label .need) l) || Bool·beq (s l) (bit (label .truth) l))
 
 -- Definition 4. The projection over a scenario has the constraints whose labels hold in it.
-unfoldable pub projected : Network → Scenario → List Constraint → List Constraint
-projected net s [] = []
-projected net s (c ∷ cs) = cond (holds net s (c .label)) (c ∷ projected net s cs) (projected net s cs)
+unfoldable pub projected : Scenario → List Constraint → List Constraint
+projected s [] = []
+projected s (c ∷ cs) = cond (holds s (c .label)) (c ∷ projected s cs) (projected s cs)
 
 abbrev pub projection : Network → Scenario → List Constraint
-projection net s = projected net s (net .constraints)
+projection net s = projected s (net .constraints)
 
 -- Definition 5. A schedule gives each point a slot.
 abbrev pub Schedule : Type 0
@@ -92,7 +92,7 @@ pub record InNetwork (net : Network) (c : Constraint) : Type 0 where
   pub over-letters : (l : ℕ) → bit (c .label .need) l ≡ true → l < net .letters
 
 -- What Definition 2 asks of the parts: O is one to one from P into T, and the constraints are over T and P.
-pub record WellFormed (net : Network) : Type 0 where
+pub record IsNetwork (net : Network) : Type 0 where
   pub disclosed : (l : ℕ) → l < net .letters → net .disclosing l < net .points
   pub own : (l k : ℕ) → l < net .letters → k < net .letters → net .disclosing l ≡ net .disclosing k → l ≡ k
   pub in-network : Each (InNetwork net) (net .constraints)

@@ -1,0 +1,79 @@
+-- Laws of Booleans and of tests of numbers. Only the checker need believe this file.
+use mathlib.Core.Path.{_≡_, refl, sym, _∙_, subst}
+use mathlib.Core.Logic.{_≢_}
+use mathlib.Core.Bool.{Bool, true, false, not, _&&_, _||_, true≢false}
+use Prim.Native.Nat.{ℕ, _≤_, _<_}
+use lib.Dec.{T, leb, ltb, eqb, leb→le, le→leb, ltb→lt, lt→ltb, eqb→eq, eqb-refl}
+
+-- a case split on a test, with what it said
+pub by-test {ℓ} : {C : Type ℓ} (b : Bool) → (b ≡ true → C) → (b ≡ false → C) → C
+by-test true f g = f refl
+by-test false f g = g refl
+
+pub clash {ℓ} : {C : Type ℓ} {b : Bool} → b ≡ true → b ≡ false → C
+clash t f = absurd (true≢false (sym t ∙ f))
+
+pub test : {b : Bool} → b ≡ true → T b
+test e = subst T (sym e) tt
+
+pub untest : (b : Bool) → T b → b ≡ true
+untest true t = refl
+untest false t = absurd t
+
+pub not-true : (b : Bool) → not b ≡ true → b ≡ false
+not-true true e = sym e
+not-true false e = refl
+
+pub not-false : (b : Bool) → not b ≡ false → b ≡ true
+not-false true e = refl
+not-false false e = sym e
+
+pub and-left : (a b : Bool) → (a && b) ≡ true → a ≡ true
+and-left true b t = refl
+and-left false b t = t
+
+pub and-right : (a b : Bool) → (a && b) ≡ true → b ≡ true
+and-right true b t = t
+and-right false b t = clash t refl
+
+pub and-make : {a b : Bool} → a ≡ true → b ≡ true → (a && b) ≡ true
+and-make {a} {b} s t = rw (s, t)
+
+pub or-right : (a : Bool) {b : Bool} → b ≡ true → (a || b) ≡ true
+or-right true t = refl
+or-right false t = t
+
+-- two Booleans that are true together are equal
+pub both-ways : (a b : Bool) → (a ≡ true → b ≡ true) → (b ≡ true → a ≡ true) → a ≡ b
+both-ways true b f g = sym (f refl)
+both-ways false true f g = g refl
+both-ways false false f g = refl
+
+-- ---- tests of numbers
+
+pub leb-yes : (a b : ℕ) → a ≤ b → leb a b ≡ true
+leb-yes a b h = untest (leb a b) (le→leb a b h)
+
+pub leb-is : (a b : ℕ) → leb a b ≡ true → a ≤ b
+leb-is a b e = leb→le a b (test e)
+
+pub ltb-yes : (a b : ℕ) → a < b → ltb a b ≡ true
+ltb-yes a b h = untest (ltb a b) (lt→ltb a b h)
+
+pub ltb-is : (a b : ℕ) → ltb a b ≡ true → a < b
+ltb-is a b e = ltb→lt a b (test e)
+
+pub ltb-no : (a b : ℕ) → ¬ (a < b) → ltb a b ≡ false
+ltb-no a b n = by-test (ltb a b) (λ y. absurd (n (ltb-is a b y))) (λ z. z)
+
+pub eqb-yes : (a b : ℕ) → a ≡ b → eqb a b ≡ true
+eqb-yes a b e = rw e (untest (eqb b b) (eqb-refl b))
+
+pub eqb-is : (a b : ℕ) → eqb a b ≡ true → a ≡ b
+eqb-is a b e = eqb→eq a b (test e)
+
+pub eqb-no : (a b : ℕ) → ¬ (a ≡ b) → eqb a b ≡ false
+eqb-no a b n = by-test (eqb a b) (λ y. absurd (n (eqb-is a b y))) (λ z. z)
+
+pub differs : (a b : ℕ) → eqb a b ≡ false → a ≢ b
+differs a b z e = clash (eqb-yes a b e) z

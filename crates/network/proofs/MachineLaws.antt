@@ -1,0 +1,123 @@
+-- Laws of the machine's operations on masks: and, or, xor, difference, shift, count of ones, trailing zeros, bit by bit. Only the checker
+-- need believe this file.
+use mathlib.Core.Path.{_≡_, refl, sym, ap, _∙_}
+use mathlib.Core.Logic.{_↔_, by-cases}
+use mathlib.Core.Bool.{Bool, true, false, not, _&&_, _||_, xor}
+use Prim.Native.Nat.{ℕ, zero, suc, _+_, _-_, _*_, _/_, _%_, _^_, _≤_, _<_, min, max}
+use native.Mathlib.Omega.{arith}
+use native.Mathlib.Nat.{pow-suc, not-suc-le-zero, div-div-eq-div-mul}
+use lib.Dec.{eqb}
+use lib.Bits.{bitAnd, bitOr, bitXor, differ, and-step, or-step, xor-step}
+use lib.Count.{ones, onesIn, ones-step, trailingZeros, under}
+use Rattle.network.specs.Mask.{bit, digit, count}
+use Rattle.network.proofs.Booleans.{by-test, clash, and-left, and-right, and-make, both-ways, eqb-yes, eqb-is, differs}
+use Rattle.network.proofs.MaskLaws.{bit-zero, bits-ext}
+
+-- ---- and, or, xor
+
+low : (x d : ℕ) → d < 2 → eqb ((x * 2 + d) % 2) 1 ≡ eqb d 1
+low x d h = let e : (x * 2 + d) % 2 ≡ d = omega arith in rw e
+
+high : (x d : ℕ) → d < 2 → (x * 2 + d) / 2 ≡ x
+high x d h = omega arith
+
+-- an operation that works on the lowest digit and on the rest apart works on each bit
+module _
+    (op : ℕ → ℕ → ℕ) (f : ℕ → ℕ → ℕ) (g : Bool → Bool → Bool)
+    (step : (a b : ℕ) → op a b ≡ op (a / 2) (b / 2) * 2 + f (a % 2) (b % 2))
+    (small : (x y : ℕ) → x < 2 → y < 2 → f x y < 2)
+    (digits : (x y : ℕ) → x < 2 → y < 2 → eqb (f x y) 1 ≡ g (eqb x 1) (eqb y 1)) where
+  bitwise-bit : (a b i : ℕ) → bit (op a b) i ≡ g (bit a i) (bit b i)
+  unfolding bit
+  bitwise-bit a b zero =
+      rw (step a b)
+        (low (op (a / 2) (b / 2)) (f (a % 2) (b % 2)) (small _ _ (omega arith) (omega arith))
+        ∙ digits _ _ (omega arith) (omega arith))
+  bitwise-bit a b (suc i) =
+      rw (step a b, high (op (a / 2) (b / 2)) (f (a % 2) (b % 2)) (small _ _ (omega arith) (omega arith)))
+        (bitwise-bit (a / 2) (b / 2) i)
+
+-- a fact of two digits, by the four cases
+two : (P : ℕ → ℕ → Type 0) → P 0 0 → P 0 1 → P 1 0 → P 1 1 → (x y : ℕ) → x < 2 → y < 2 → P x y
+two P p q r s zero zero h k = p
+two P p q r s zero (suc zero) h k = q
+two P p q r s zero (suc (suc y)) h k = absurd (omega arith)
+two P p q r s (suc zero) zero h k = r
+two P p q r s (suc zero) (suc zero) h k = s
+two P p q r s (suc zero) (suc (suc y)) h k = absurd (omega arith)
+two P p q r s (suc (suc x)) zero h k = absurd (omega arith)
+two P p q r s (suc (suc x)) (suc y) h k = absurd (omega arith)
+
+pub bit-and : (a b i : ℕ) → bit (bitAnd a b) i ≡ (bit a i && bit b i)
+bit-and =
+    bitwise-bit bitAnd min _&&_ and-step
+      (two (λ x y. min x y < 2) (omega arith) (omega arith) (omega arith) (omega arith))
+      (two (λ x y. eqb (min x y) 1 ≡ (eqb x 1 && eqb y 1)) refl refl refl refl)
+
+pub bit-or : (a b i : ℕ) → bit (bitOr a b) i ≡ (bit a i || bit b i)
+bit-or =
+    bitwise-bit bitOr max _||_ or-step
+      (two (λ x y. max x y < 2) (omega arith) (omega arith) (omega arith) (omega arith))
+      (two (λ x y. eqb (max x y) 1 ≡ (eqb x 1 || eqb y 1)) refl refl refl refl)
+
+pub bit-xor : (a b i : ℕ) → bit (bitXor a b) i ≡ xor (bit a i) (bit b i)
+unfolding xor
+bit-xor =
+    bitwise-bit bitXor differ xor xor-step
+      (two (λ x y. differ x y < 2) (omega arith) (omega arith) (omega arith) (omega arith))
+      (two (λ x y. eqb (differ x y) 1 ≡ xor (eqb x 1) (eqb y 1)) refl refl refl refl)
+
+-- ---- a subset
+
+pub subset-is : (a b : ℕ) → (eqb (bitAnd a b) a ≡ true) ↔ ((i : ℕ) → bit a i ≡ true → bit b i ≡ true)
+subset-is a b =
+    (λ e i y.
+        and-right (bit a i) (bit b i)
+          (sym (bit-and a b i) ∙ ap (λ (x : ℕ). bit x i) (eqb-is (bitAnd a b) a e) ∙ y),
+     λ h. eqb-yes (bitAnd a b) a (bits-ext (bitAnd a b) a (λ i. bit-and a b i
+        ∙ both-ways (bit a i && bit b i) (bit a i) (λ t. and-left (bit a i) (bit b i) t) (λ t. and-make t (h i t)))))
+
+-- ---- one bit by a shift
+
+pub bit-shift : (i m : ℕ) → bit m i ≡ eqb (m / 2 ^ i % 2) 1
+unfolding bit
+bit-shift zero m = let e : m / 2 ^ 0 ≡ m = omega arith in rw e
+bit-shift (suc i) m =
+    let e : m / 2 / 2 ^ i ≡ m / 2 ^ suc i = div-div-eq-div-mul m 2 (2 ^ i) ∙ ap (λ (x : ℕ). m / x) (let q = pow-suc 2 i in omega arith) in
+    bit-shift i (m / 2) ∙ rw e
+
+-- ---- count of ones
+
+digit-odd : (m : ℕ) → m % 2 ≡ digit (eqb (m % 2) 1)
+digit-odd m = by-test (eqb (m % 2) 1)
+    (λ y. let e = eqb-is (m % 2) 1 y in rw y e)
+    (λ z. let d = differs (m % 2) 1 z in rw z (omega arith))
+
+pub ones-count : (n m : ℕ) → m < 2 ^ n → ones m ≡ count n (bit m)
+unfolding count bit ones onesIn
+ones-count zero m h = let e : m ≡ 0 = omega arith in rw e
+ones-count (suc n) m h =
+    let r = ones-count n (m / 2) (let q : m < 2 ^ n * 2 = rw (← pow-suc) h in omega arith) in
+    ones-step m ∙ rw (r) (ap (λ (x : ℕ). x + count n (bit (m / 2))) (digit-odd m))
+
+-- ---- the lowest member, by trailing zeros
+
+pub record Lowest (n m t : ℕ) : Type 0 where
+  pub small : t < n
+  pub member : bit m t ≡ true
+  pub none-below : (i : ℕ) → i < t → bit m i ≡ false
+
+pub lowest-is : (n m : ℕ) → 0 < m → m < 2 ^ n → Lowest n m (trailingZeros n m)
+unfolding trailingZeros bit
+lowest-is zero m pos h = absurd (omega arith)
+lowest-is (suc n) m pos h = by-test (eqb (m % 2) 1)
+    (λ y. let e = eqb-is (m % 2) 1 y in
+          rw e (record { small = omega arith; member = y; none-below = λ i lt. absurd (not-suc-le-zero lt) }))
+    (λ z. let d = differs (m % 2) 1 z in
+          let e : m % 2 ≡ 0 = omega arith in
+          let r = lowest-is n (m / 2) (omega arith) (let q : m < 2 ^ n * 2 = rw (← pow-suc) h in omega arith) in
+          rw e (record { small = (let s = r .small in omega arith); member = r .member; none-below = below z r }))
+  where
+    below : eqb (m % 2) 1 ≡ false → Lowest n (m / 2) (trailingZeros n (m / 2)) → (i : ℕ) → i < suc (trailingZeros n (m / 2)) → bit m i ≡ false
+    below z r zero lt = z
+    below z r (suc i) lt = r .none-below i (omega arith)
