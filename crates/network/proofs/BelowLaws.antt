@@ -17,8 +17,8 @@ unfolding allBelow
 all-at zero f t i h = absurd (not-suc-le-zero h)
 all-at (suc n) f t i h =
     by-cases (decLt i n)
-      (λ lt. all-at n f (and-left (allBelow n f) (f n) t) i lt)
-      (λ ge. let e : i ≡ n = omega arith in rw e (and-right (allBelow n f) (f n) t))
+    (λ lt. all-at n f (and-left (allBelow n f) (f n) t) i lt)
+    (λ ge. let e : i ≡ n = omega arith in rw e (and-right (allBelow n f) (f n) t))
 
 pub all-make : (n : ℕ) (f : ℕ → Bool) → ((i : ℕ) → i < n → f i ≡ true) → allBelow n f ≡ true
 unfolding allBelow
@@ -30,16 +30,16 @@ unfolding anyBelow
 any-at zero f t = clash t refl
 any-at (suc n) f t =
     by-test (anyBelow n f)
-      (λ e. let r = any-at n f e in (r .0, omega arith, r .2))
-      (λ e. (n, omega arith, rw e at t))
+    (λ e. let r = any-at n f e in (r .0, omega arith, r .2))
+    (λ e. (n, omega arith, rw e at t))
 
 pub any-make : (n : ℕ) (f : ℕ → Bool) (i : ℕ) → i < n → f i ≡ true → anyBelow n f ≡ true
 unfolding anyBelow
 any-make zero f i h t = absurd (not-suc-le-zero h)
 any-make (suc n) f i h t =
     by-cases (decLt i n)
-      (λ lt. rw (any-make n f i lt t))
-      (λ ge. let e : i ≡ n = omega arith in or-right (anyBelow n f) (rw e at t))
+    (λ lt. rw (any-make n f i lt t))
+    (λ ge. let e : i ≡ n = omega arith in or-right (anyBelow n f) (rw e at t))
 
 pub all-cong : (n : ℕ) (f g : ℕ → Bool) → ((i : ℕ) → i < n → f i ≡ g i) → allBelow n f ≡ allBelow n g
 unfolding allBelow
@@ -66,8 +66,8 @@ before-first (suc n) f zero h =
     by-test (f zero) (λ y. let q : zero < zero = rw y at h in absurd (not-suc-le-zero q)) (λ z. z)
 before-first (suc n) f (suc j) h =
     by-test (f zero)
-      (λ y. let q : suc j < zero = rw y at h in absurd (not-suc-le-zero q))
-      (λ z. let q : suc j < suc (firstBelow n (λ i. f (suc i))) = rw z at h in before-first n (λ i. f (suc i)) j (omega arith))
+    (λ y. let q : suc j < zero = rw y at h in absurd (not-suc-le-zero q))
+    (λ z. let q : suc j < suc (firstBelow n (λ i. f (suc i))) = rw z at h in before-first n (λ i. f (suc i)) j (omega arith))
 
 pub first-le : (n : ℕ) (f : ℕ → Bool) (u : ℕ) → f u ≡ true → firstBelow n f ≤ u
 first-le n f u y = by-cases (decLt u (firstBelow n f)) (λ lt. clash y (before-first n f u lt)) (λ ge. omega arith)
@@ -82,8 +82,8 @@ first-same n f g y h =
     let le = first-le n g t gt in
     let b = first-at n g (any-make n g t (a .0) gt) in
     by-cases (decLt (firstBelow n g) t)
-      (λ lt. clash (h (firstBelow n g) le ∙ b .1) (before-first n f (firstBelow n g) lt))
-      (λ ge. omega arith)
+    (λ lt. clash (h (firstBelow n g) le ∙ b .1) (before-first n f (firstBelow n g) lt))
+    (λ ge. omega arith)
 
 -- ---- how many
 
@@ -134,8 +134,8 @@ count-drop (suc n) f g h (suc i) lt y z =
 pub count-none : (n : ℕ) (f : ℕ → Bool) → count n f ≤ 0 → (i : ℕ) → i < n → f i ≡ false
 count-none n f h i lt =
     by-test (f i)
-      (λ y. let r = count-drop n f (λ j. false) (λ j k e. clash e refl) i lt y refl in absurd (omega arith))
-      (λ z. z)
+    (λ y. let r = count-drop n f (λ j. false) (λ j k e. clash e refl) i lt y refl in absurd (omega arith))
+    (λ z. z)
 
 pub count-empty : (n : ℕ) → count n (λ i. false) ≡ 0
 unfolding count
@@ -149,23 +149,27 @@ count-some n f i lt y = let r = count-drop n f (λ j. false) (λ j k e. clash e 
 pub any-counted : (n : ℕ) (f : ℕ → Bool) → count n f ≡ 1 → anyBelow n f ≡ true
 any-counted n f e =
     by-test (anyBelow n f)
-      (λ y. y)
-      (λ z. let a = count-mono n (λ i. false) f (λ i lt y. clash (any-make n f i lt y) z) in
-            let b = count-empty n in
-            absurd (omega arith))
+    (λ y. y)
+    (λ z. let a = count-mono n (λ i. false) f (λ i lt y. clash (any-make n f i lt y) z) in
+    let b = count-empty n in
+    absurd (omega arith))
 
 pub count-one : (n t : ℕ) → t < n → count n (λ u. eqb t u) ≡ 1
 unfolding count
 count-one zero t h = absurd (not-suc-le-zero h)
 count-one (suc n) zero h =
-    rw (count-cong n (λ i. eqb zero (suc i)) (λ i. false) (λ i lt. eqb-no zero (suc i) (λ e. let q : zero ≡ suc i = e in omega arith)),
-        count-empty n)
+    rw (
+      count-cong n (λ i. eqb zero (suc i)) (λ i. false) (λ i lt. eqb-no zero (suc i) (λ e. let q : zero ≡ suc i = e in omega arith)),
+      count-empty n,
+    )
 count-one (suc n) (suc t) h =
-    rw (eqb-no (suc t) zero (λ e. let q : suc t ≡ zero = e in omega arith),
-        count-cong n (λ i. eqb (suc t) (suc i)) (λ i. eqb t i) (λ i lt. by-cases (ℕ-discrete t i)
+    rw (
+      eqb-no (suc t) zero (λ e. let q : suc t ≡ zero = e in omega arith),
+      count-cong n (λ i. eqb (suc t) (suc i)) (λ i. eqb t i) (λ i lt. by-cases (ℕ-discrete t i)
           (λ e. eqb-yes (suc t) (suc i) (rw e) ∙ sym (eqb-yes t i e))
           (λ ne. eqb-no (suc t) (suc i) (λ q. ne (omega arith)) ∙ sym (eqb-no t i ne))),
-        count-one n t (omega arith))
+      count-one n t (omega arith),
+    )
 
 pub count-split : (n : ℕ) (f h : ℕ → Bool) → count n f ≡ count n (λ i. f i && h i) + count n (λ i. f i && not (h i))
 unfolding count
@@ -184,20 +188,22 @@ unfolding count
 count-inj zero f to k g h inj = omega arith
 count-inj (suc n) f to k g h inj =
     by-test (f zero)
-      (λ y. let g′ : ℕ → Bool = λ x. g x && not (eqb x (to zero)) in
-            let at0 = h zero (omega arith) y in
-            let gone : g′ (to zero) ≡ false = rw (at0 .1, eqb-yes (to zero) (to zero) refl) in
-            let drop = count-drop k g g′ (λ x lt e. and-left (g x) (not (eqb x (to zero))) e) (to zero) (at0 .0) (at0 .1) gone in
-            let r = count-inj n (λ i. f (suc i)) (λ i. to (suc i)) k g′
-                  (λ i lt e. let q = h (suc i) (omega arith) e in
-                     (q .0, and-make (q .1) (by-test (eqb (to (suc i)) (to zero))
-                        (λ z. let x : suc i ≡ 0 = inj (suc i) zero (omega arith) (omega arith) e y (eqb-is _ _ z) in absurd (omega arith))
-                        (λ z. rw z))))
-                  (λ i j li lj ei ej e. let x : suc i ≡ suc j = inj (suc i) (suc j) (omega arith) (omega arith) ei ej e in omega arith) in
-            rw y (omega arith))
-      (λ z. let r = count-inj n (λ i. f (suc i)) (λ i. to (suc i)) k g (λ i lt e. h (suc i) (omega arith) e)
-                  (λ i j li lj ei ej e. let x : suc i ≡ suc j = inj (suc i) (suc j) (omega arith) (omega arith) ei ej e in omega arith) in
-            rw z (omega arith))
+    (λ y. let g′ : ℕ → Bool = λ x. g x && not (eqb x (to zero)) in
+    let at0 = h zero (omega arith) y in
+    let gone : g′ (to zero) ≡ false = rw (at0 .1, eqb-yes (to zero) (to zero) refl) in
+    let drop = count-drop k g g′ (λ x lt e. and-left (g x) (not (eqb x (to zero))) e) (to zero) (at0 .0) (at0 .1) gone in
+    let r = count-inj n (λ i. f (suc i)) (λ i. to (suc i)) k g′
+    (λ i lt e. let q = h (suc i) (omega arith) e in (
+      q .0,
+      and-make (q .1) (by-test (eqb (to (suc i)) (to zero))
+          (λ z. let x : suc i ≡ 0 = inj (suc i) zero (omega arith) (omega arith) e y (eqb-is _ _ z) in absurd (omega arith))
+          (λ z. rw z)),
+    ))
+    (λ i j li lj ei ej e. let x : suc i ≡ suc j = inj (suc i) (suc j) (omega arith) (omega arith) ei ej e in omega arith) in
+    rw y (omega arith))
+    (λ z. let r = count-inj n (λ i. f (suc i)) (λ i. to (suc i)) k g (λ i lt e. h (suc i) (omega arith) e)
+    (λ i j li lj ei ej e. let x : suc i ≡ suc j = inj (suc i) (suc j) (omega arith) (omega arith) ei ej e in omega arith) in
+    rw z (omega arith))
 
 -- ---- sums
 

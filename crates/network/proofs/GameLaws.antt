@@ -46,10 +46,11 @@ module _ (net : Network) where
   outcome-at-is m k l y = in-submask (net .letters) (hears net m) k l y .1
 
   pub outcome-numbered : (m : Move) (o : ℕ) → Outcome net m o → (k : ℕ) × (k < outcomes net m) × (outcomeAt net m k ≡ o)
-  outcome-numbered m o h =
-      (rank (net .letters) (hears net m) o,
-       rank-lt (net .letters) (hears net m) o,
-       submask-rank (net .letters) (hears net m) o (λ l y. (condition-lt net l (heard-condition m l (h l y)), h l y)))
+  outcome-numbered m o h = (
+    rank (net .letters) (hears net m) o,
+    rank-lt (net .letters) (hears net m) o,
+    submask-rank (net .letters) (hears net m) o (λ l y. (condition-lt net l (heard-condition m l (h l y)), h l y)),
+  )
 
   -- ---- the start
 
@@ -90,9 +91,10 @@ module _ (net : Network) where
         (x : ℕ) → x < net .points → bit (after net s m o .left) x ≡ true →
         (bit (s .left) x ≡ true) × (bit (m .points) x ≡ false)
     was-left x h e =
-        let q : (bit (s .left) x && not (bit (m .points) x)) ≡ true = sym (left-is x h) ∙ e in
-        (and-left (bit (s .left) x) (not (bit (m .points) x)) q,
-         not-true (bit (m .points) x) (and-right (bit (s .left) x) (not (bit (m .points) x)) q))
+        let q : (bit (s .left) x && not (bit (m .points) x)) ≡ true = sym (left-is x h) ∙ e in (
+          and-left (bit (s .left) x) (not (bit (m .points) x)) q,
+          not-true (bit (m .points) x) (and-right (bit (s .left) x) (not (bit (m .points) x)) q),
+        )
 
     pub was-performed :
         (x : ℕ) → x < net .points → bit (after net s m o .left) x ≡ false → bit (m .points) x ≡ false → bit (s .left) x ≡ false
@@ -103,7 +105,7 @@ module _ (net : Network) where
     fewer-left lg =
         let p = lg .some in
         count-drop (net .points) (bit (s .left)) (bit (after net s m o .left)) (λ x lt b. was-left x lt b .0) (p .0) (p .1)
-          (lg .not-yet (p .0) (p .2)) (performed (p .0) (p .1) (p .2))
+        (lg .not-yet (p .0) (p .2)) (performed (p .0) (p .1) (p .2))
 
     pub slot-new : (x : ℕ) → bit (m .points) x ≡ true → after net s m o .slots x ≡ m .slot
     unfolding after

@@ -31,11 +31,11 @@ module _
   unfolding bit
   bitwise-bit a b zero =
       rw (step a b)
-        (low (op (a / 2) (b / 2)) (f (a % 2) (b % 2)) (small _ _ (omega arith) (omega arith))
-        ∙ digits _ _ (omega arith) (omega arith))
+      (low (op (a / 2) (b / 2)) (f (a % 2) (b % 2)) (small _ _ (omega arith) (omega arith))
+      ∙ digits _ _ (omega arith) (omega arith))
   bitwise-bit a b (suc i) =
       rw (step a b, high (op (a / 2) (b / 2)) (f (a % 2) (b % 2)) (small _ _ (omega arith) (omega arith)))
-        (bitwise-bit (a / 2) (b / 2) i)
+      (bitwise-bit (a / 2) (b / 2) i)
 
 -- a fact of two digits, by the four cases
 two : (P : ℕ → ℕ → Type 0) → P 0 0 → P 0 1 → P 1 0 → P 1 1 → (x y : ℕ) → x < 2 → y < 2 → P x y
@@ -51,31 +51,32 @@ two P p q r s (suc (suc x)) (suc y) h k = absurd (omega arith)
 pub bit-and : (a b i : ℕ) → bit (bitAnd a b) i ≡ (bit a i && bit b i)
 bit-and =
     bitwise-bit bitAnd min _&&_ and-step
-      (two (λ x y. min x y < 2) (omega arith) (omega arith) (omega arith) (omega arith))
-      (two (λ x y. eqb (min x y) 1 ≡ (eqb x 1 && eqb y 1)) refl refl refl refl)
+    (two (λ x y. min x y < 2) (omega arith) (omega arith) (omega arith) (omega arith))
+    (two (λ x y. eqb (min x y) 1 ≡ (eqb x 1 && eqb y 1)) refl refl refl refl)
 
 pub bit-or : (a b i : ℕ) → bit (bitOr a b) i ≡ (bit a i || bit b i)
 bit-or =
     bitwise-bit bitOr max _||_ or-step
-      (two (λ x y. max x y < 2) (omega arith) (omega arith) (omega arith) (omega arith))
-      (two (λ x y. eqb (max x y) 1 ≡ (eqb x 1 || eqb y 1)) refl refl refl refl)
+    (two (λ x y. max x y < 2) (omega arith) (omega arith) (omega arith) (omega arith))
+    (two (λ x y. eqb (max x y) 1 ≡ (eqb x 1 || eqb y 1)) refl refl refl refl)
 
 pub bit-xor : (a b i : ℕ) → bit (bitXor a b) i ≡ xor (bit a i) (bit b i)
 unfolding xor
 bit-xor =
     bitwise-bit bitXor differ xor xor-step
-      (two (λ x y. differ x y < 2) (omega arith) (omega arith) (omega arith) (omega arith))
-      (two (λ x y. eqb (differ x y) 1 ≡ xor (eqb x 1) (eqb y 1)) refl refl refl refl)
+    (two (λ x y. differ x y < 2) (omega arith) (omega arith) (omega arith) (omega arith))
+    (two (λ x y. eqb (differ x y) 1 ≡ xor (eqb x 1) (eqb y 1)) refl refl refl refl)
 
 -- ---- a subset
 
 pub subset-is : (a b : ℕ) → (eqb (bitAnd a b) a ≡ true) ↔ ((i : ℕ) → bit a i ≡ true → bit b i ≡ true)
-subset-is a b =
-    (λ e i y.
-        and-right (bit a i) (bit b i)
-          (sym (bit-and a b i) ∙ ap (λ (x : ℕ). bit x i) (eqb-is (bitAnd a b) a e) ∙ y),
-     λ h. eqb-yes (bitAnd a b) a (bits-ext (bitAnd a b) a (λ i. bit-and a b i
-        ∙ both-ways (bit a i && bit b i) (bit a i) (λ t. and-left (bit a i) (bit b i) t) (λ t. and-make t (h i t)))))
+subset-is a b = (
+  λ e i y.
+      and-right (bit a i) (bit b i)
+      (sym (bit-and a b i) ∙ ap (λ (x : ℕ). bit x i) (eqb-is (bitAnd a b) a e) ∙ y),
+  λ h. eqb-yes (bitAnd a b) a (bits-ext (bitAnd a b) a (λ i. bit-and a b i
+      ∙ both-ways (bit a i && bit b i) (bit a i) (λ t. and-left (bit a i) (bit b i) t) (λ t. and-make t (h i t)))),
+)
 
 -- ---- one bit by a shift
 
@@ -112,11 +113,11 @@ unfolding trailingZeros bit
 lowest-is zero m pos h = absurd (omega arith)
 lowest-is (suc n) m pos h = by-test (eqb (m % 2) 1)
     (λ y. let e = eqb-is (m % 2) 1 y in
-          rw e (record { small = omega arith; member = y; none-below = λ i lt. absurd (not-suc-le-zero lt) }))
+    rw e (record { small = omega arith; member = y; none-below = λ i lt. absurd (not-suc-le-zero lt) }))
     (λ z. let d = differs (m % 2) 1 z in
-          let e : m % 2 ≡ 0 = omega arith in
-          let r = lowest-is n (m / 2) (omega arith) (let q : m < 2 ^ n * 2 = rw (← pow-suc) h in omega arith) in
-          rw e (record { small = (let s = r .small in omega arith); member = r .member; none-below = below z r }))
+    let e : m % 2 ≡ 0 = omega arith in
+    let r = lowest-is n (m / 2) (omega arith) (let q : m < 2 ^ n * 2 = rw (← pow-suc) h in omega arith) in
+    rw e (record { small = (let s = r .small in omega arith); member = r .member; none-below = below z r }))
   where
     below : eqb (m % 2) 1 ≡ false → Lowest n (m / 2) (trailingZeros n (m / 2)) → (i : ℕ) → i < suc (trailingZeros n (m / 2)) → bit m i ≡ false
     below z r zero lt = z

@@ -57,8 +57,8 @@ mask-cong (suc n) f g h = rw (h zero (omega arith), mask-cong n (λ i. f (suc i)
 pub in-mask : (n : ℕ) (f : ℕ → Bool) (i : ℕ) → bit (mask n f) i ≡ true → (i < n) × (f i ≡ true)
 in-mask n f i e =
     by-cases (decLt i n)
-      (λ lt. (lt, sym (bit-mask n f i lt) ∙ e))
-      (λ ge. clash e (bit-mask-above n f i (omega arith)))
+    (λ lt. (lt, sym (bit-mask n f i lt) ∙ e))
+    (λ ge. clash e (bit-mask-above n f i (omega arith)))
 
 -- ---- numbers and their bits
 
@@ -87,18 +87,18 @@ bits-lt (suc n) m h =
 same-parity : (a b : ℕ) → eqb (a % 2) 1 ≡ eqb (b % 2) 1 → a % 2 ≡ b % 2
 same-parity a b e =
     by-test (eqb (b % 2) 1)
-      (λ y. let p = eqb-is (a % 2) 1 (e ∙ y) in let q = eqb-is (b % 2) 1 y in omega arith)
-      (λ z. let p = differs (a % 2) 1 (e ∙ z) in let q = differs (b % 2) 1 z in omega arith)
+    (λ y. let p = eqb-is (a % 2) 1 (e ∙ y) in let q = eqb-is (b % 2) 1 y in omega arith)
+    (λ z. let p = differs (a % 2) 1 (e ∙ z) in let q = differs (b % 2) 1 z in omega arith)
 
 -- two numbers are equal where their bits are
 pub bits-ext : (a b : ℕ) → ((i : ℕ) → bit a i ≡ bit b i) → a ≡ b
 unfolding bit
 bits-ext a =
     bin-ind
-      (λ (x : ℕ). (b : ℕ) → ((i : ℕ) → bit x i ≡ bit b i) → x ≡ b)
-      (λ b h. sym (no-bits b (λ i. sym (h i) ∙ bit-zero i)))
-      step
-      a
+    (λ (x : ℕ). (b : ℕ) → ((i : ℕ) → bit x i ≡ bit b i) → x ≡ b)
+    (λ b h. sym (no-bits b (λ i. sym (h i) ∙ bit-zero i)))
+    step
+    a
   where
     step :
         (x : ℕ) → ((b : ℕ) → ((i : ℕ) → bit (x / 2) i ≡ bit b i) → x / 2 ≡ b) → (b : ℕ) →

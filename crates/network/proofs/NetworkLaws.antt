@@ -32,8 +32,8 @@ module _ (net : Network) where
       combined net cs ds l ≡ combined net cs′ ds′ l
   combined-cong cs cs′ ds ds′ hc hd l lt =
       by-test (net .is-decision l)
-        (λ e. rw (e, hd l (decision-of l lt e)))
-        (λ e. rw (e, hc l (condition-of l lt e)))
+      (λ e. rw (e, hd l (decision-of l lt e)))
+      (λ e. rw (e, hc l (condition-of l lt e)))
 
   -- ---- what `keeps` looks at
 
@@ -46,19 +46,20 @@ module _ (net : Network) where
   each-kept ψ s [] k = tt
   each-kept ψ s (c ∷ cs) k =
       by-test (holds s (c .label))
-        (λ y. let q : (satisfies ψ c && feasible ψ (projected s cs)) ≡ true = rw y at k in
-              (λ t. and-left (satisfies ψ c) (feasible ψ (projected s cs)) q,
-               each-kept ψ s cs (and-right (satisfies ψ c) (feasible ψ (projected s cs)) q)))
-        (λ z. let q : feasible ψ (projected s cs) ≡ true = rw z at k in
-              (λ t. clash t z, each-kept ψ s cs q))
+      (λ y. let q : (satisfies ψ c && feasible ψ (projected s cs)) ≡ true = rw y at k in (
+        λ t. and-left (satisfies ψ c) (feasible ψ (projected s cs)) q,
+        each-kept ψ s cs (and-right (satisfies ψ c) (feasible ψ (projected s cs)) q),
+      ))
+      (λ z. let q : feasible ψ (projected s cs) ≡ true = rw z at k in
+      (λ t. clash t z, each-kept ψ s cs q))
 
   kept-each : (ψ : Schedule) (s : Scenario) (cs : List Constraint) → KeepsEach ψ s cs → feasible ψ (projected s cs) ≡ true
   unfolding projected feasible Each
   kept-each ψ s [] k = refl
   kept-each ψ s (c ∷ cs) k =
       by-test (holds s (c .label))
-        (λ y. rw y (and-make (k .0 y) (kept-each ψ s cs (k .1))))
-        (λ z. rw z (kept-each ψ s cs (k .1)))
+      (λ y. rw y (and-make (k .0 y) (kept-each ψ s cs (k .1))))
+      (λ z. rw z (kept-each ψ s cs (k .1)))
 
   pub keeps-is : (ψ : Schedule) (s : Scenario) → (keeps net ψ s ≡ true) ↔ KeepsEach ψ s (net .constraints)
   unfolding keeps
@@ -78,8 +79,8 @@ module _ (net : Network) where
   feasible-cong ψ ψ′ s s′ hx hl (c ∷ cs) k =
       let r = feasible-cong ψ ψ′ s s′ hx hl cs (k .1) in
       rw (holds-cong s s′ (c .label) (λ l y. hl l (k .0 .over-letters l y))) (by-test (holds s′ (c .label))
-        (λ y. rw (y, hx (c .from) (k .0 .from-point), hx (c .to) (k .0 .to-point), r))
-        (λ z. rw (z, r)))
+      (λ y. rw (y, hx (c .from) (k .0 .from-point), hx (c .to) (k .0 .to-point), r))
+      (λ z. rw (z, r)))
 
   -- `keeps` looks only at the slots of the points and at the values of the letters
   pub keeps-cong :

@@ -1,6 +1,7 @@
 -- Definitions: masks, and tests of all numbers below a bound. A reader must believe this file.
 use Prim.Native.Nat.{ℕ, zero, suc, _+_, _*_, _/_, _%_}
 use mathlib.Core.Bool.{Bool, true, false, cond, _&&_, _||_}
+use mathlib.Core.List.{List, [], _++_}
 use lib.Dec.{eqb}
 
 -- bit i of the number m, whose value is 2 to the power i
@@ -39,10 +40,14 @@ firstBelow (suc n) f =
     let next = suc later in
     cond (f zero) zero next
 
--- f 0 + f 1 + .. + f (n - 1)
+-- f 0 + f 1 + .. + f (n - 1); the lists f 0, f 1, .. f (n - 1) one after the other
 unfoldable pub sumBelow : ℕ → (ℕ → ℕ) → ℕ
 sumBelow zero f = 0
 sumBelow (suc n) f = sumBelow n f + f n
+
+unfoldable pub joinBelow : {A : Type 0} → ℕ → (ℕ → List A) → List A
+joinBelow zero f = []
+joinBelow (suc n) f = joinBelow n f ++ f n
 
 -- Of the masks inside the set { i < n | f i }, number k: the members of the set are the binary digits of k, the lowest member least.
 -- Numbers from 0 to 2 ^ count n f - 1 give each mask once, in rising order.

@@ -2,7 +2,8 @@
 use mathlib.Core.Path.{_≡_}
 use mathlib.Core.Bool.{Bool, true, _&&_}
 use Prim.Native.Nat.{ℕ, suc}
-use Rattle.network.specs.Mask.{bit, mask, sumBelow}
+use mathlib.Core.List.{List, [], _∷_}
+use Rattle.network.specs.Mask.{bit, mask, sumBelow, joinBelow}
 use Rattle.network.specs.Network.{Network}
 use Rattle.network.specs.Strategy.{Strategy}
 use Rattle.network.specs.Game.{State, start, Move, hears, Legal, Outcome, outcomes, outcomeAt, after, Over, Kept}
@@ -37,6 +38,11 @@ play net (node m next) s cs = play net (next (outcomeOf net m cs)) (after net s 
 -- the strategy that a tree describes: each setting of the conditions walks one path
 unfoldable pub strategyOf : Network → Tree → Strategy
 strategyOf net t = record { time = λ cs. play net t (start net) cs .slots; choice = λ cs. play net t (start net) cs .decided }
+
+-- the nodes' moves, parent first, then each child's whole subtree in turn, the children in the order of their outcomes
+unfoldable pub preorder : Network → Tree → List Move
+preorder net done = []
+preorder net (node m next) = m ∷ joinBelow (outcomes net m) (λ k. preorder net (next (outcomeAt net m k)))
 
 -- the number of nodes: one, and those of the subtree of each outcome
 unfoldable pub nodes : Network → Tree → ℕ

@@ -1,0 +1,155 @@
+-- Cases: small networks of document 01, computed, and what the definitions say of them. Only the checker need believe this file; a reader
+-- may like to.
+use mathlib.Core.Path.{_≡_, refl, sym, _∙_}
+use mathlib.Core.List.{List, [], _∷_}
+use mathlib.Core.Bool.{Bool, true, false, cond}
+use Prim.Native.Nat.{ℕ, zero, suc, _%_, _<_}
+use native.Mathlib.Omega.{arith}
+use native.Mathlib.Nat.{not-suc-le-zero}
+use lib.Dec.{eqb}
+use lib.IntN.{ℤ, pos, negsuc}
+use Rattle.network.specs.Mask.{bit, mask, count, allBelow, anyBelow, firstBelow, joinBelow, sumBelow, submask}
+use Rattle.network.specs.Network.{Constraint, Network, condition, holds, projected, atMost, feasible, keeps}
+use Rattle.network.specs.Strategy.{ConditionScenario, Strategy, Viable, InHistory, SameHistory, Dynamic}
+use Rattle.network.specs.Game.{start, Move, after}
+use Rattle.network.specs.Tree.{preorder, nodes}
+use Rattle.network.specs.Search.{over, winsBy, winsWith, winsIn, winnable, firstMove, firstTreeFrom, firstTree, hopeless}
+use Rattle.network.specs.Policy.{Policy, observe, heardBefore}
+use Rattle.network.proofs.Booleans.{by-test, clash}
+use Rattle.network.proofs.MaskLaws.{bit-zero}
+
+-- Y − X ≤ d where the letters of n are as t shows
+abbrev at-most : ℕ → ℕ → ℤ → ℕ → ℕ → Constraint
+at-most x y d n t = record { from = x; to = y; bound = d; label = record { need = n; truth = t } }
+
+-- horizon, points, letters; letter l is disclosed by point l
+abbrev network : ℕ → ℕ → ℕ → (ℕ → Bool) → List Constraint → Network
+network h p l d cs = record { horizon = h; points = p; letters = l; disclosing = λ i. i; is-decision = d; constraints = cs }
+
+abbrev the-world : ℕ → Bool
+the-world l = false
+
+abbrev the-agent : ℕ → Bool
+the-agent l = true
+
+abbrev move : ℕ → ℕ → ℕ → Move
+move t ps ch = record { slot = t; points = ps; choices = ch }
+
+-- ---- document 01's plans
+
+-- one point; point 0 before itself; point 0 not before itself
+abbrev k1 : Network
+k1 = network 3 1 0 the-world []
+
+abbrev k2 : Network
+k2 = network 3 1 0 the-world (at-most 0 0 (negsuc 0) 0 0 ∷ [])
+
+abbrev k3 : Network
+k3 = network 3 1 0 the-world (at-most 0 0 (pos 0) 0 0 ∷ [])
+
+-- letter 0 true: point 1 at most d after point 0; false: at least 2 after it
+abbrev apart : ℤ → List Constraint
+apart d = at-most 0 1 d 1 1 ∷ (at-most 1 0 (negsuc 1) 1 0 ∷ [])
+
+abbrev k4 : Network
+k4 = network 2 2 1 the-world (apart (pos 1))
+
+abbrev k5 : Network
+k5 = network 1 2 1 the-world (apart (pos 1))
+
+abbrev k6 : Network
+k6 = network 63 2 1 the-world (apart (pos 0))
+
+abbrev k7 : Network
+k7 = network 2 2 1 the-agent (apart (pos 0))
+
+abbrev k8 : Network
+k8 = network 1 2 1 the-agent (apart (pos 0))
+
+-- condition 0 at point 0, decision 1 at point 1, point 1 at most d after point 0, self-loops where the letters differ
+abbrev mixed : ℕ → Bool
+mixed zero = false
+mixed (suc l) = true
+
+abbrev copied : ℤ → Network
+copied d = network 1 2 2 mixed (at-most 0 1 d 0 0 ∷ (at-most 0 0 (negsuc 0) 3 1 ∷ (at-most 0 0 (negsuc 0) 3 2 ∷ [])))
+
+abbrev k9 : Network
+k9 = copied (pos 1)
+
+abbrev k10 : Network
+k10 = copied (pos 0)
+
+-- ---- hopeless, or not
+
+pub verdicts :
+    (hopeless k1 ≡ false) × (hopeless k2 ≡ true) × (hopeless k3 ≡ false) × (hopeless k4 ≡ false) × (hopeless k5 ≡ true)
+    × (hopeless k6 ≡ true) × (hopeless k7 ≡ false) × (hopeless k8 ≡ false) × (hopeless k9 ≡ false) × (hopeless k10 ≡ true)
+unfolding bit mask count allBelow anyBelow submask holds projected atMost feasible keeps start after over winsBy winsWith winsIn winnable
+verdicts = (refl, refl, refl, refl, refl, refl, refl, refl, refl, refl)
+
+-- ---- the trees of first moves
+
+pub trees :
+    (preorder k1 (firstTree k1) ≡ move 0 1 0 ∷ [])
+    × (preorder k4 (firstTree k4) ≡ move 0 1 0 ∷ (move 2 2 0 ∷ (move 1 2 0 ∷ [])))
+    × (preorder k7 (firstTree k7) ≡ move 0 1 0 ∷ (move 2 2 0 ∷ []))
+    × (preorder k8 (firstTree k8) ≡ move 0 2 0 ∷ (move 1 1 1 ∷ []))
+    × (preorder k9 (firstTree k9) ≡ move 0 1 0 ∷ (move 1 2 0 ∷ (move 1 2 2 ∷ [])))
+    × (nodes k9 (firstTree k9) ≡ 3)
+unfolding bit mask count allBelow anyBelow firstBelow joinBelow sumBelow submask holds projected atMost feasible keeps start after over winsBy winsWith winsIn winnable firstMove firstTreeFrom preorder nodes
+trees = (refl, refl, refl, refl, refl, refl)
+
+-- ---- what is heard when (Definition 7)
+
+-- an outcome is not heard in its own slot
+pub not-in-its-slot :
+    (net : Network) (σ : Strategy) (t cs l : ℕ) (v : Bool) → σ .time cs (net .disclosing l) ≡ t → ¬ InHistory net σ t cs l v
+not-in-its-slot net σ t cs l v e h = let b = h .before in omega arith
+
+-- .. and is heard in the next
+pub in-the-next-slot :
+    (net : Network) (σ : Strategy) (t cs l : ℕ) → condition net l ≡ true → σ .time cs (net .disclosing l) ≡ t →
+    InHistory net σ (suc t) cs l (bit cs l)
+in-the-next-slot net σ t cs l c e = record { contingent = c; before = omega arith; valued = refl }
+
+-- ---- each outcome's network alone: a strategy for k6 that knows the outcome beforehand is viable and not dynamic
+
+abbrev foreseeing : Strategy
+foreseeing = record { time = λ cs x. cond (eqb x 0) 0 (cond (bit cs 0) 0 2); choice = λ cs. 0 }
+
+pub foreseeing-viable : Viable k6 foreseeing
+unfolding bit allBelow holds projected atMost feasible keeps
+foreseeing-viable =
+    record {
+      within = λ cs k x h. by-test (eqb x 0) (λ y. rw y (omega arith)) (λ z. rw z (by-test (eqb (cs % 2) 1) (λ y. rw y (omega arith)) (λ n. rw n (omega arith))));
+      keeping = λ cs k. by-test (eqb (cs % 2) 1) (λ y. rw y (rw y)) (λ z. rw z (rw z));
+    }
+
+pub foreseeing-not-dynamic : ¬ Dynamic k6 foreseeing
+unfolding bit
+foreseeing-not-dynamic d =
+    let same : SameHistory k6 foreseeing 0 1 0 = λ l v. (λ h. absurd (not-suc-le-zero (h .before)), λ h. absurd (not-suc-le-zero (h .before))) in
+    let e : _≡_ {A = ℕ} 2 0 = d .times 1 0 one none 1 (omega arith) same in
+    omega arith
+  where
+    one : ConditionScenario k6 1
+    one zero b = refl
+    one (suc l) b = clash b (bit-zero l)
+
+    none : ConditionScenario k6 0
+    none l b = clash b (bit-zero l)
+
+-- ---- policies: what a crew has heard by a slot
+
+-- it performs point 0 in slot 0 and waits
+abbrev waiting : Policy
+waiting u heard = record { points = cond (eqb u 0) 1 0; choices = 0 }
+
+pub heard-by-slot :
+    (heardBefore k4 waiting 1 0 ≡ [])
+    × (heardBefore k4 waiting 1 1 ≡ record { conditions = 1; true-ones = 1 } ∷ [])
+    × (heardBefore k4 waiting 0 1 ≡ record { conditions = 1; true-ones = 0 } ∷ [])
+    × (heardBefore k8 waiting 1 1 ≡ record { conditions = 0; true-ones = 0 } ∷ [])
+unfolding bit mask observe heardBefore
+heard-by-slot = (refl, refl, refl, refl)

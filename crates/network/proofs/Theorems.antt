@@ -1,0 +1,74 @@
+-- The six theorems on networks, gathered. Read the statements against specs/; the proofs are cited, and only the checker need believe them.
+use mathlib.Core.Path.{_≡_}
+use mathlib.Core.Logic.{_↔_}
+use mathlib.Core.List.{List}
+use mathlib.Core.Bool.{true, false}
+use Prim.Native.Nat.{ℕ, suc, _*_, _≤_, _<_}
+use Rattle.network.specs.Network.{Network, IsNetwork}
+use Rattle.network.specs.Strategy.{Viable, Dynamic, Consistent}
+use Rattle.network.specs.Game.{State, start, Move, Legal, outcomes, after, Over, Kept}
+use Rattle.network.specs.Tree.{Tree, Sound, Shaped, Wins, strategyOf, nodes}
+use Rattle.network.specs.FirstMoves.{CanBeWon, FirstMoves, SameTree}
+use Rattle.network.specs.Search.{firstTree, hopeless}
+use Rattle.network.specs.Policy.{Policy, SucceedsAlways}
+use Rattle.network.specs.Crew.{Step, Follows, AtEnd, HeardAlike, ToldAlike}
+use Rattle.network.proofs.TreeStrategy as tree
+use Rattle.network.proofs.FirstLaws as first
+use Rattle.network.proofs.SizeLaws.{room}
+use Rattle.network.proofs.SizeLaws as size
+use Rattle.network.proofs.PolicyLaws as policy
+use Rattle.network.proofs.CrewLaws as crew
+
+module _ (net : Network) (wf : IsNetwork net) where
+  -- Theorem 1. A tree sound in shape describes a dynamic strategy, which is viable exactly where every path of the tree keeps every
+  -- constraint whose label holds on it.
+  pub tree-dynamic : (t : Tree) → Shaped net t → Dynamic net (strategyOf net t)
+  tree-dynamic t sd = tree.dynamic net wf (λ s. Unit {0}) t sd
+
+  pub tree-viable-exactly : (t : Tree) → Shaped net t → Viable net (strategyOf net t) ↔ Wins net t
+  tree-viable-exactly = tree.viable-exactly net wf
+
+  -- Theorem 2. A dynamic and viable strategy exists exactly where the agent wins the game from the start.
+  pub consistent-exactly : Consistent net ↔ CanBeWon net (start net)
+  consistent-exactly = first.consistent-exactly net wf
+
+  -- Theorem 3. Hopeless, as computed, is exactly that no dynamic and viable strategy exists. Otherwise the computed tree wins, is a tree
+  -- of first moves (so that no earlier move at any of its nodes can be won), and there is no other.
+  pub hopeless-exactly : (hopeless net ≡ true) ↔ (¬ Consistent net)
+  hopeless-exactly = first.hopeless-exactly net wf
+
+  pub first-tree-first : hopeless net ≡ false → FirstMoves net (firstTree net) (start net)
+  first-tree-first = first.tree-of-first-moves net
+
+  pub first-tree-wins : hopeless net ≡ false → Wins net (firstTree net)
+  first-tree-wins e = first.first→sound net (firstTree net) (start net) (first-tree-first e) (first.won-exactly net .0 e)
+
+  pub first-tree-only : hopeless net ≡ false → (t : Tree) → FirstMoves net t (start net) → SameTree net (firstTree net) t
+  first-tree-only e t f = first.first-unique net (firstTree net) t (start net) (first-tree-first e) f
+
+  -- Theorem 4. A sound tree has fewer nodes than its state has room. After a legal move, one node and the subtrees of all outcomes still
+  -- fit. With at most 8 points and 6 letters, each with a point of its own, a tree has at most 191 nodes.
+  pub nodes-fit : (t : Tree) (E : State → Type 0) (s : State) → Sound net E t s → nodes net t < room net s
+  nodes-fit = size.nodes-fit net wf
+
+  pub room-step :
+      (s : State) (m : Move) (o : ℕ) → Legal net s m → (x : ℕ) → x < room net (after net s m o) →
+      suc (outcomes net m * x) < room net s
+  room-step = size.room-step net wf
+
+  pub at-most-191 : (t : Tree) → Shaped net t → net .points ≤ 8 → net .letters ≤ 6 → nodes net t ≤ 191
+  at-most-191 t sd hp hl = size.at-most-191 net wf t (λ s. Unit {0}) sd hp hl
+
+  -- Theorem 5. No policy performs each point exactly once within the horizon and keeps every relevant constraint, whichever outcomes
+  -- come, where the network is hopeless; and a tree that wins gives such a policy.
+  pub no-policy : hopeless net ≡ true → (π : Policy) → ¬ SucceedsAlways net π
+  no-policy t π win = hopeless-exactly .0 t (policy.policy-exactly net wf .0 (π, win))
+
+  pub winning-policy : (t : Tree) → Wins net t → (π : Policy) × SucceedsAlways net π
+  winning-policy t w = policy.policy-exactly net wf .1 (tree.wins→consistent net wf t w)
+
+  -- Theorem 6. Two crews on one tree that heard alike before a slot, both at the end, were told alike in it.
+  pub heard-alike-told-alike :
+      (t : Tree) → Shaped net t → (log log′ : List Step) → Follows net t log → Follows net t log′ → AtEnd t log → AtEnd t log′ →
+      (u : ℕ) → HeardAlike net log log′ u → ToldAlike log log′ u
+  heard-alike-told-alike t sd log log′ fo fo′ en en′ u ha = crew.alike net wf (λ s. Unit {0}) t (start net) log log′ u sd fo fo′ en en′ ha

@@ -1,0 +1,125 @@
+-- Theorem 1: the strategy that a tree describes is dynamic, and it is viable just where every path keeps. Only the checker need believe
+-- this file.
+use mathlib.Core.Path.{_≡_, refl, sym, _∙_, subst}
+use mathlib.Core.Logic.{_↔_}
+use mathlib.Core.Bool.{Bool, true, false}
+use Prim.Native.Nat.{ℕ, _≤_, _<_}
+use native.Mathlib.Omega.{arith}
+use Rattle.network.specs.Mask.{bit}
+use Rattle.network.specs.Network.{Network, condition, decision, combined, keeps, IsNetwork}
+use Rattle.network.specs.Strategy.{ConditionScenario, Strategy, Viable, InHistory, SameHistory, Dynamic, Consistent}
+use Rattle.network.specs.Game.{State, start, Move, hears, Legal, Outcome, after, Kept}
+use Rattle.network.specs.Tree.{Tree, done, node, Sound, Shaped, Wins, outcomeOf, play, strategyOf}
+use Rattle.network.specs.FirstMoves.{CanBeWon}
+use Rattle.network.proofs.Booleans.{by-test, clash, and-left}
+use Rattle.network.proofs.MaskLaws.{bit-zero, bits-ext, in-mask}
+use Rattle.network.proofs.NetworkLaws.{condition-lt, decision-lt, combined-cong, keeps-cong}
+use Rattle.network.proofs.GameLaws.{heard-condition, heard-point, outcome-outside, all-left, performed, stays-performed, heard-new, heard-old}
+use Rattle.network.proofs.PathLaws.{outcome-is, outcome-at, slot-open, ends, heard-is, same}
+
+module _ (net : Network) (wf : IsNetwork net) where
+  module _ (End : State → Type 0) (t : Tree) (sd : Sound net End t (start net)) where
+    -- a sound tree describes a dynamic strategy
+    pub dynamic : Dynamic net (strategyOf net t)
+    unfolding strategyOf
+    dynamic = record {
+      times = λ cs cs′ k k′ X h sh. same net wf End t (start net) cs cs′ X sd h (all-left net X h) (agree cs cs′ X sh) .0;
+      choices = λ cs cs′ k k′ l d sh.
+          let h = wf .disclosed l (decision-lt net l d) in
+          same net wf End t (start net) cs cs′ (net .disclosing l) sd h (all-left net (net .disclosing l) h) (agree cs cs′ (net .disclosing l) sh) .1 l d refl;
+    }
+      where
+        agree : (cs cs′ X : ℕ) → SameHistory net (strategyOf net t) (strategyOf net t .time cs X) cs cs′
+            → (l : ℕ) → condition net l ≡ true → bit (start net .left) (net .disclosing l) ≡ true
+            → play net t (start net) cs .slots (net .disclosing l) < play net t (start net) cs .slots X → bit cs l ≡ bit cs′ l
+        agree cs cs′ X sh l c z lt = sym (sh l (bit cs l) .0 (record { contingent = c; before = lt; valued = refl }) .valued)
+
+    -- the scenario's letters at the end of its path
+    at-end : (cs l : ℕ) → l < net .letters
+        → combined net (play net t (start net) cs .heard) (play net t (start net) cs .decided) l ≡ combined net cs (play net t (start net) cs .decided) l
+    at-end cs = combined-cong net _ _ _ _
+        (heard-is net wf End t (start net) cs sd (λ l c e. clash (all-left net (net .disclosing l) (wf .disclosed l (condition-lt net l c))) e)) (λ l d. refl)
+
+    kept-is : (cs : ℕ) → keeps net (play net t (start net) cs .slots) (combined net (play net t (start net) cs .heard) (play net t (start net) cs .decided))
+        ≡ keeps net (strategyOf net t .time cs) (combined net cs (strategyOf net t .choice cs))
+    unfolding strategyOf
+    kept-is cs = keeps-cong net wf _ _ _ _ (λ p h. refl) (at-end cs)
+
+    -- .. which is viable exactly where the path of each condition scenario keeps its constraints
+    pub viable-iff : Viable net (strategyOf net t) ↔ ((cs : ℕ) → ConditionScenario net cs → Kept net (play net t (start net) cs))
+    unfolding strategyOf
+    viable-iff = (
+      λ v cs k. kept-is cs ∙ v .keeping cs k,
+      λ h. record {
+        within = λ cs k p lt. slot-open net wf End t (start net) cs p sd lt (all-left net p lt) .1;
+        keeping = λ cs k. sym (kept-is cs) ∙ h cs k;
+      },
+    )
+
+  -- ---- every path is walked by some scenario
+
+  -- the scenario agrees with what was heard
+  abbrev pub Fits : State → ℕ → Type 0
+  Fits s cs = (l : ℕ) → condition net l ≡ true → bit (s .left) (net .disclosing l) ≡ false → bit (s .heard) l ≡ bit cs l
+
+  pub heard-scenario : (s : State) (m : Move) (o : ℕ) → ConditionScenario net (s .heard) → ConditionScenario net (after net s m o .heard)
+  unfolding after
+  heard-scenario s m o k l b =
+      let r = in-mask (net .letters) _ l b .1 in
+      by-test (hears net m l) (λ y. heard-condition net m l y) (λ n. k l (rw n at r))
+
+  pub fits-outcome : (s : State) (m : Move) (o cs : ℕ) → Outcome net m o → Fits (after net s m o) cs → outcomeOf net m cs ≡ o
+  fits-outcome s m o cs k f =
+      bits-ext (outcomeOf net m cs) o (λ l. by-test (hears net m l)
+      (λ y. let c = heard-condition net m l y in
+      let b = heard-point net m l y in
+      outcome-at net wf m cs l c b
+      ∙ sym (f l c (performed net s m o (net .disclosing l) (wf .disclosed l (condition-lt net l c)) b))
+      ∙ heard-new net s m o l c b)
+      (λ z. outcome-outside net m (outcomeOf net m cs) (outcome-is net wf m cs) l z ∙ sym (outcome-outside net m o k l z)))
+
+  pub fits-before : (s : State) (m : Move) (o cs : ℕ) → Legal net s m → Fits (after net s m o) cs → Fits s cs
+  fits-before s m o cs lg f l c e =
+      let n : bit (m .points) (net .disclosing l) ≡ false = by-test (bit (m .points) (net .disclosing l))
+      (λ y. clash (lg .not-yet (net .disclosing l) y) e) (λ z. z) in
+      sym (heard-old net s m o l c n)
+      ∙ f l c (stays-performed net s m o (net .disclosing l) (wf .disclosed l (condition-lt net l c)) e)
+
+  -- where each scenario's path ends well, all paths do
+  all-paths :
+      (Any End : State → Type 0) (t : Tree) (s : State) → ConditionScenario net (s .heard) → Sound net Any t s →
+      ((cs : ℕ) → ConditionScenario net cs → Fits s cs → End (play net t s cs)) → Sound net End t s
+  unfolding Sound play
+  all-paths Any End done s k sd h = (sd .0, h (s .heard) k (λ l c e. refl))
+  all-paths Any End (node m next) s k sd h = (
+    sd .0,
+    λ o ok. all-paths Any End (next o) (after net s m o) (heard-scenario s m o k) (sd .1 o ok)
+        (λ cs c f. subst (λ (x : ℕ). End (play net (next x) (after net s m x) cs)) (fits-outcome s m o cs ok f)
+        (h cs c (fits-before s m o cs (sd .0) f))),
+  )
+
+  pub start-scenario : ConditionScenario net (start net .heard)
+  unfolding start
+  start-scenario l b = clash b (bit-zero l)
+
+  -- ---- the theorem
+
+  -- a tree that wins is sound in shape
+  pub wins→shaped : (t : Tree) (s : State) → Sound net (Kept net) t s → Sound net (λ x. Unit {0}) t s
+  unfolding Sound
+  wins→shaped done s sd = (sd .0, tt)
+  wins→shaped (node m next) s sd = (sd .0, λ o ok. wins→shaped (next o) (after net s m o) (sd .1 o ok))
+
+  pub viable-exactly : (t : Tree) → Shaped net t → Viable net (strategyOf net t) ↔ Wins net t
+  viable-exactly t sd = (
+    λ v. all-paths (λ s. Unit {0}) (Kept net) t (start net) start-scenario sd (λ cs c f. viable-iff (λ s. Unit {0}) t sd .0 v cs c),
+    λ w. viable-iff (λ s. Unit {0}) t sd .1 (λ cs c. ends net wf (Kept net) t (start net) cs w),
+  )
+
+  pub wins→consistent : (t : Tree) → Wins net t → Consistent net
+  wins→consistent t w =
+      record {
+        strategy = strategyOf net t;
+        viable = viable-exactly t (wins→shaped t (start net) w) .1 w;
+        dynamic = dynamic (Kept net) t w;
+      }
