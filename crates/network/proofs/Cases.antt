@@ -1,9 +1,9 @@
 -- Cases: small networks of document 01, computed, and what the definitions say of them. Only the checker need believe this file; a reader
 -- may like to.
-use mathlib.Core.Path.{_≡_, refl, sym, _∙_}
+use mathlib.Core.Path.{_≡_, refl}
 use mathlib.Core.List.{List, [], _∷_}
 use mathlib.Core.Bool.{Bool, true, false, cond}
-use Prim.Native.Nat.{ℕ, zero, suc, _%_, _<_}
+use Prim.Native.Nat.{ℕ, zero, suc, _%_}
 use native.Mathlib.Omega.{arith}
 use native.Mathlib.Nat.{not-suc-le-zero}
 use lib.Dec.{eqb}
@@ -150,6 +150,14 @@ pub heard-by-slot :
     (heardBefore k4 waiting 1 0 ≡ [])
     × (heardBefore k4 waiting 1 1 ≡ record { conditions = 1; true-ones = 1 } ∷ [])
     × (heardBefore k4 waiting 0 1 ≡ record { conditions = 1; true-ones = 0 } ∷ [])
+    × (heardBefore k4 waiting 1 2 ≡ record { conditions = 0; true-ones = 0 } ∷ (record { conditions = 1; true-ones = 1 } ∷ []))
     × (heardBefore k8 waiting 1 1 ≡ record { conditions = 0; true-ones = 0 } ∷ [])
 unfolding bit mask observe heardBefore
-heard-by-slot = (refl, refl, refl, refl)
+heard-by-slot = (refl, refl, refl, refl, refl)
+
+-- ---- both ends of the horizon count
+
+-- with horizon 0 the one slot 0 is within it
+pub last-slot : Viable (network 0 1 0 the-world []) (record { time = λ cs x. 0; choice = λ cs. 0 })
+unfolding projected feasible keeps
+last-slot = record { within = λ cs k x h. omega arith; keeping = λ cs k. refl }

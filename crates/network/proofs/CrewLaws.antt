@@ -1,20 +1,20 @@
 -- Theorem 6: crews on one tree that heard alike before a slot, both at the end, were told alike in it. Only the checker need believe this
 -- file.
 use mathlib.Core.Path.{_≡_, refl, sym, ap, _∙_, subst}
-use mathlib.Core.Logic.{_↔_, _⊎_, inl, inr, ⊎-elim, by-cases}
+use mathlib.Core.Logic.{inl, inr, ⊎-elim, by-cases}
 use mathlib.Core.List.{List, [], _∷_}
-use mathlib.Core.Bool.{Bool, true, false}
-use Prim.Native.Nat.{ℕ, suc, _≤_, _<_}
+use mathlib.Core.Bool.{Bool, true}
+use Prim.Native.Nat.{ℕ, _≤_, _<_}
 use native.Mathlib.Omega.{arith}
 use native.Mathlib.Decide.{decLt}
 use Rattle.network.specs.Mask.{bit}
 use Rattle.network.specs.Network.{Network, condition, IsNetwork}
-use Rattle.network.specs.Game.{State, Move, hears, Outcome, after, Over}
+use Rattle.network.specs.Game.{State, Move, hears, after, Over}
 use Rattle.network.specs.Tree.{Tree, done, node, Sound}
 use Rattle.network.specs.Crew.{Step, Follows, AtEnd, stateAfter, Some, Hears, HeardAlike, ToldAlike}
 use Rattle.network.proofs.Booleans.{by-test, clash}
 use Rattle.network.proofs.MaskLaws.{bits-ext}
-use Rattle.network.proofs.NetworkLaws.{condition-lt}
+use Rattle.network.proofs.NetworkLaws.{condition-point}
 use Rattle.network.proofs.GameLaws.{heard-condition, heard-point, outcome-outside, open-is, performed, was-left}
 
 module _ (net : Network) (wf : IsNetwork net) (E : State → Type 0) where
@@ -63,7 +63,7 @@ module _ (net : Network) (wf : IsNetwork net) (E : State → Type 0) where
       let y : hears net m l ≡ true = subst (λ (x : Move). hears net x l ≡ true) (fo .0) (g .1) in
       (heard-condition net m l y, sd .0 .not-yet (net .disclosing l) (heard-point net m l y)))
       (λ g. let r = heard-left (next o) (after net s m o) log u l v (sd .1 o (fo .1)) (fo .2) g in
-      (r .0, was-left net s m o (net .disclosing l) (wf .disclosed l (condition-lt net l (r .0))) (r .1) .0))
+      (r .0, was-left net s m o (net .disclosing l) (condition-point net wf l (r .0)) (r .1) .0))
       f
 
   -- what is heard at the root is not heard again below it
@@ -72,7 +72,7 @@ module _ (net : Network) (wf : IsNetwork net) (E : State → Type 0) where
       Sound net E (next o) (after net s m o) → Follows net (next o) log → hears net m l ≡ true → Some (Hears net u l v) log → C
   heard-once m next s o log u l v sd fo y g =
       let r = heard-left (next o) (after net s m o) log u l v sd fo g in
-      clash (r .1) (performed net s m o (net .disclosing l) (wf .disclosed l (condition-lt net l (r .0))) (heard-point net m l y))
+      clash (r .1) (performed net s m o (net .disclosing l) (condition-point net wf l (r .0)) (heard-point net m l y))
 
   -- two runs from one node
   module _

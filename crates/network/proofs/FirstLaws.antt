@@ -1,19 +1,19 @@
 -- Theorem 3: the computed search decides whether the game can be won, and its tree is the only tree of first moves. Only the checker need
 -- believe this file.
-use mathlib.Core.Path.{_≡_, refl, sym, ap, _∙_, subst}
-use mathlib.Core.Logic.{_↔_, by-cases, _⊎_, inl, inr}
-use mathlib.Core.Bool.{Bool, true, false, not, cond, _&&_}
-use Prim.Native.Nat.{ℕ, zero, suc, _≤_, _<_}
+use mathlib.Core.Path.{_≡_, sym, subst}
+use mathlib.Core.Logic.{_↔_, by-cases, inl, inr}
+use mathlib.Core.Bool.{true, false}
+use Prim.Native.Nat.{ℕ, zero, suc, _≤_}
 use native.Mathlib.Omega.{arith}
 use native.Mathlib.Decide.{decLt}
 use Rattle.network.specs.Mask.{bit, count}
 use Rattle.network.specs.Network.{Network, IsNetwork}
 use Rattle.network.specs.Strategy.{Consistent}
-use Rattle.network.specs.Game.{State, start, Move, Legal, Outcome, after, Over, Kept}
+use Rattle.network.specs.Game.{State, start, Move, Legal, after, Kept}
 use Rattle.network.specs.Tree.{Tree, done, node, Sound}
 use Rattle.network.specs.FirstMoves.{CanBeWon, Winning, Before, FirstMoves, SameTree}
 use Rattle.network.specs.Search.{over, kept, winnable, firstMove, firstTreeFrom, firstTree, hopeless}
-use Rattle.network.proofs.Booleans.{by-test, clash, and-left, and-right, and-make, not-true, not-false}
+use Rattle.network.proofs.Booleans.{by-test, clash, and-left, and-right, and-make, not-false}
 use Rattle.network.proofs.BelowLaws.{count-le, count-none}
 use Rattle.network.proofs.GameLaws.{Inside, not-over, start-inside, after-inside, fewer-left}
 use Rattle.network.proofs.SearchLaws.{over-is, wins-by-is, some-wins, first-wins, first-least}

@@ -1,8 +1,8 @@
 -- Laws of the game: what a move changes. Only the checker need believe this file.
 use mathlib.Core.Path.{_≡_, refl, sym, _∙_}
-use mathlib.Core.Bool.{Bool, true, false, not, cond, _&&_, and-false}
+use mathlib.Core.Bool.{true, false, not, _&&_, and-false}
 use Prim.Native.Nat.{ℕ, suc, _<_, _^_}
-use Rattle.network.specs.Mask.{bit, mask, count}
+use Rattle.network.specs.Mask.{bit, count}
 use Rattle.network.specs.Network.{Network, condition, decision}
 use Rattle.network.specs.Game.{State, start, Move, hears, settles, Legal, Outcome, outcomes, outcomeAt, after, Over}
 use Rattle.network.proofs.Booleans.{by-test, clash, and-left, and-right, not-true}
@@ -36,6 +36,10 @@ module _ (net : Network) where
   -- where a move is legal, a point is left
   pub not-over : {C : Type 0} (s : State) (m : Move) → Legal net s m → Over net s → C
   not-over s m lg ov = let p = lg .some in clash (lg .not-yet (p .0) (p .2)) (ov (p .0) (p .1))
+
+  -- a point that is not left is not performed again
+  pub not-again : (s : State) (m : Move) → Legal net s m → (x : ℕ) → bit (s .left) x ≡ false → bit (m .points) x ≡ false
+  not-again s m lg x e = by-test (bit (m .points) x) (λ y. clash (lg .not-yet x y) e) (λ n. n)
 
   -- ---- outcomes and their numbers
 

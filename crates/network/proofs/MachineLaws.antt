@@ -1,17 +1,17 @@
 -- Laws of the machine's operations on masks: and, or, xor, difference, shift, count of ones, trailing zeros, bit by bit. Only the checker
 -- need believe this file.
 use mathlib.Core.Path.{_≡_, refl, sym, ap, _∙_}
-use mathlib.Core.Logic.{_↔_, by-cases}
-use mathlib.Core.Bool.{Bool, true, false, not, _&&_, _||_, xor}
-use Prim.Native.Nat.{ℕ, zero, suc, _+_, _-_, _*_, _/_, _%_, _^_, _≤_, _<_, min, max}
+use mathlib.Core.Logic.{_↔_}
+use mathlib.Core.Bool.{Bool, true, false, _&&_, _||_, xor}
+use Prim.Native.Nat.{ℕ, zero, suc, _+_, _*_, _/_, _%_, _^_, _<_, min, max}
 use native.Mathlib.Omega.{arith}
 use native.Mathlib.Nat.{pow-suc, not-suc-le-zero, div-div-eq-div-mul}
 use lib.Dec.{eqb}
 use lib.Bits.{bitAnd, bitOr, bitXor, differ, and-step, or-step, xor-step}
-use lib.Count.{ones, onesIn, ones-step, trailingZeros, under}
+use lib.Count.{ones, onesIn, ones-step, trailingZeros}
 use Rattle.network.specs.Mask.{bit, digit, count}
-use Rattle.network.proofs.Booleans.{by-test, clash, and-left, and-right, and-make, both-ways, eqb-yes, eqb-is, differs}
-use Rattle.network.proofs.MaskLaws.{bit-zero, bits-ext}
+use Rattle.network.proofs.Booleans.{by-test, and-left, and-right, and-make, both-ways, eqb-yes, eqb-is, differs}
+use Rattle.network.proofs.MaskLaws.{bits-ext}
 
 -- ---- and, or, xor
 
@@ -119,6 +119,8 @@ lowest-is (suc n) m pos h = by-test (eqb (m % 2) 1)
     let r = lowest-is n (m / 2) (omega arith) (let q : m < 2 ^ n * 2 = rw (← pow-suc) h in omega arith) in
     rw e (record { small = (let s = r .small in omega arith); member = r .member; none-below = below z r }))
   where
-    below : eqb (m % 2) 1 ≡ false → Lowest n (m / 2) (trailingZeros n (m / 2)) → (i : ℕ) → i < suc (trailingZeros n (m / 2)) → bit m i ≡ false
+    below :
+        eqb (m % 2) 1 ≡ false → Lowest n (m / 2) (trailingZeros n (m / 2)) → (i : ℕ) → i < suc (trailingZeros n (m / 2)) →
+        bit m i ≡ false
     below z r zero lt = z
     below z r (suc i) lt = r .none-below i (omega arith)

@@ -1,13 +1,13 @@
 -- Laws of networks: kinds of letters, and what `keeps` looks at. Only the checker need believe this file.
-use mathlib.Core.Path.{_≡_, refl, sym, ap, _∙_}
+use mathlib.Core.Path.{_≡_, refl}
 use mathlib.Core.Logic.{_↔_}
 use mathlib.Core.List.{List, [], _∷_}
-use mathlib.Core.Bool.{Bool, true, false, not, cond, _&&_, _||_}
+use mathlib.Core.Bool.{true, false, not, _&&_}
 use Prim.Native.Nat.{ℕ, _<_}
 use lib.Dec.{ltb}
-use Rattle.network.specs.Mask.{bit, allBelow}
-use Rattle.network.specs.Network.{Label, Constraint, Network, Scenario, Schedule, condition, decision, combined, holds, projected, projection, atMost, satisfies, feasible, keeps, Each, InNetwork, IsNetwork}
-use Rattle.network.proofs.Booleans.{by-test, clash, and-left, and-right, and-make, both-ways, not-true, ltb-yes, ltb-is}
+use Rattle.network.specs.Mask.{bit}
+use Rattle.network.specs.Network.{Label, Constraint, Network, Scenario, Schedule, condition, decision, combined, holds, projected, satisfies, feasible, keeps, Each, InNetwork, IsNetwork}
+use Rattle.network.proofs.Booleans.{by-test, clash, and-left, and-right, and-make, ltb-yes, ltb-is}
 use Rattle.network.proofs.BelowLaws.{all-cong}
 
 module _ (net : Network) where
@@ -18,6 +18,12 @@ module _ (net : Network) where
 
   pub decision-lt : (l : ℕ) → decision net l ≡ true → l < net .letters
   decision-lt l d = ltb-is l (net .letters) (and-left (ltb l (net .letters)) (net .is-decision l) d)
+
+  pub condition-point : IsNetwork net → (l : ℕ) → condition net l ≡ true → net .disclosing l < net .points
+  condition-point wf l c = wf .disclosed l (condition-lt l c)
+
+  pub decision-point : IsNetwork net → (l : ℕ) → decision net l ≡ true → net .disclosing l < net .points
+  decision-point wf l d = wf .disclosed l (decision-lt l d)
 
   pub condition-of : (l : ℕ) → l < net .letters → net .is-decision l ≡ false → condition net l ≡ true
   condition-of l h e = rw (ltb-yes l (net .letters) h, e)

@@ -1,27 +1,31 @@
 -- Laws of the path that a condition scenario walks down a sound tree. Only the checker need believe this file.
 use mathlib.Core.Path.{_≡_, refl, sym, _∙_, subst}
-use mathlib.Core.Bool.{Bool, true, false}
+use mathlib.Core.Bool.{true, false}
 use Prim.Native.Nat.{ℕ, _≤_, _<_}
 use native.Mathlib.Omega.{arith}
-use Rattle.network.specs.Mask.{bit, mask}
+use Rattle.network.specs.Mask.{bit}
 use Rattle.network.specs.Network.{Network, condition, decision, IsNetwork}
 use Rattle.network.specs.Game.{State, Move, hears, Outcome, after}
 use Rattle.network.specs.Tree.{Tree, done, node, Sound, outcomeOf, play}
 use Rattle.network.proofs.Booleans.{by-test, clash, and-left}
 use Rattle.network.proofs.MaskLaws.{bit-mask, mask-cong, in-mask}
-use Rattle.network.proofs.NetworkLaws.{condition-lt, decision-lt}
-use Rattle.network.proofs.GameLaws.{heard-condition, heard-point, open-is, performed, stays-performed, stays-left, was-left, slot-new, slot-old, heard-new, heard-old, decided-new, decided-old}
+use Rattle.network.proofs.NetworkLaws.{condition-lt, condition-point, decision-point}
+use Rattle.network.proofs.GameLaws.{heard-condition, heard-point, open-is, performed, stays-performed, stays-left, was-left, slot-new, slot-old, heard-new, heard-old, decided-new, decided-old, not-again}
 
 module _ (net : Network) (wf : IsNetwork net) where
   pub outcome-is : (m : Move) (cs : ℕ) → Outcome net m (outcomeOf net m cs)
   unfolding outcomeOf
   outcome-is m cs l e = and-left (hears net m l) (bit cs l) (in-mask (net .letters) _ l e .1)
 
-  pub outcome-at : (m : Move) (cs l : ℕ) → condition net l ≡ true → bit (m .points) (net .disclosing l) ≡ true → bit (outcomeOf net m cs) l ≡ bit cs l
+  pub outcome-at :
+      (m : Move) (cs l : ℕ) → condition net l ≡ true → bit (m .points) (net .disclosing l) ≡ true →
+      bit (outcomeOf net m cs) l ≡ bit cs l
   unfolding outcomeOf
   outcome-at m cs l c e = bit-mask (net .letters) _ l (condition-lt net l c) ∙ rw (c, e)
 
-  pub outcome-cong : (m : Move) (cs cs′ : ℕ) → ((l : ℕ) → condition net l ≡ true → bit (m .points) (net .disclosing l) ≡ true → bit cs l ≡ bit cs′ l)
+  pub outcome-cong :
+      (m : Move) (cs cs′ : ℕ) →
+      ((l : ℕ) → condition net l ≡ true → bit (m .points) (net .disclosing l) ≡ true → bit cs l ≡ bit cs′ l)
       → outcomeOf net m cs ≡ outcomeOf net m cs′
   unfolding outcomeOf
   outcome-cong m cs cs′ h =
@@ -31,38 +35,45 @@ module _ (net : Network) (wf : IsNetwork net) where
 
   module _ (End : State → Type 0) where
     -- a point that is not left has its slot already
-    pub slot-stays : (t : Tree) (s : State) (cs p : ℕ) → Sound net End t s → p < net .points → bit (s .left) p ≡ false → play net t s cs .slots p ≡ s .slots p
+    pub slot-stays :
+        (t : Tree) (s : State) (cs p : ℕ) → Sound net End t s → p < net .points → bit (s .left) p ≡ false →
+        play net t s cs .slots p ≡ s .slots p
     unfolding Sound play
     slot-stays done s cs p sd h e = refl
     slot-stays (node m next) s cs p sd h e =
         let o = outcomeOf net m cs in
-        let f : bit (m .points) p ≡ false = by-test (bit (m .points) p) (λ y. clash (sd .0 .not-yet p y) e) (λ n. n) in
+        let f : bit (m .points) p ≡ false = not-again net s m (sd .0) p e in
         slot-stays (next o) (after net s m o) cs p (sd .1 o (outcome-is m cs)) h (stays-performed net s m o p h e) ∙ slot-old net s m o p f
 
-    pub decided-stays : (t : Tree) (s : State) (cs l : ℕ) → Sound net End t s → decision net l ≡ true → bit (s .left) (net .disclosing l) ≡ false
+    pub decided-stays :
+        (t : Tree) (s : State) (cs l : ℕ) → Sound net End t s → decision net l ≡ true → bit (s .left) (net .disclosing l) ≡ false
         → bit (play net t s cs .decided) l ≡ bit (s .decided) l
     unfolding Sound play
     decided-stays done s cs l sd d e = refl
     decided-stays (node m next) s cs l sd d e =
         let o = outcomeOf net m cs in
-        let f : bit (m .points) (net .disclosing l) ≡ false = by-test (bit (m .points) (net .disclosing l)) (λ y. clash (sd .0 .not-yet (net .disclosing l) y) e) (λ n. n) in
-        decided-stays (next o) (after net s m o) cs l (sd .1 o (outcome-is m cs)) d (stays-performed net s m o (net .disclosing l) (wf .disclosed l (decision-lt net l d)) e)
+        let f : bit (m .points) (net .disclosing l) ≡ false = not-again net s m (sd .0) (net .disclosing l) e in
+        decided-stays (next o) (after net s m o) cs l (sd .1 o (outcome-is m cs)) d (stays-performed net s m o (net .disclosing l) (decision-point net wf l d) e)
         ∙ decided-old net s m o l d f
 
     -- a point of the first move has that move's slot, and its decision the value chosen there
-    pub slot-first : (m : Move) (next : ℕ → Tree) (s : State) (cs p : ℕ) → Sound net End (node m next) s → p < net .points → bit (m .points) p ≡ true
+    pub slot-first :
+        (m : Move) (next : ℕ → Tree) (s : State) (cs p : ℕ) → Sound net End (node m next) s → p < net .points →
+        bit (m .points) p ≡ true
         → play net (node m next) s cs .slots p ≡ m .slot
     unfolding Sound play
     slot-first m next s cs p sd h y =
         let o = outcomeOf net m cs in
         slot-stays (next o) (after net s m o) cs p (sd .1 o (outcome-is m cs)) h (performed net s m o p h y) ∙ slot-new net s m o p y
 
-    pub decided-first : (m : Move) (next : ℕ → Tree) (s : State) (cs l : ℕ) → Sound net End (node m next) s → decision net l ≡ true → bit (m .points) (net .disclosing l) ≡ true
+    pub decided-first :
+        (m : Move) (next : ℕ → Tree) (s : State) (cs l : ℕ) → Sound net End (node m next) s → decision net l ≡ true →
+        bit (m .points) (net .disclosing l) ≡ true
         → bit (play net (node m next) s cs .decided) l ≡ bit (m .choices) l
     unfolding Sound play
     decided-first m next s cs l sd d y =
         let o = outcomeOf net m cs in
-        decided-stays (next o) (after net s m o) cs l (sd .1 o (outcome-is m cs)) d (performed net s m o (net .disclosing l) (wf .disclosed l (decision-lt net l d)) y)
+        decided-stays (next o) (after net s m o) cs l (sd .1 o (outcome-is m cs)) d (performed net s m o (net .disclosing l) (decision-point net wf l d) y)
         ∙ decided-new net s m o l d y
 
     -- a point that is left gets a slot that is open, within the horizon
@@ -88,13 +99,13 @@ module _ (net : Network) (wf : IsNetwork net) where
         → ((l : ℕ) → condition net l ≡ true → bit (s .left) (net .disclosing l) ≡ false → bit (s .heard) l ≡ bit cs l)
         → (l : ℕ) → condition net l ≡ true → bit (play net t s cs .heard) l ≡ bit cs l
     unfolding Sound play
-    heard-is done s cs sd so l c = so l c (sd .0 (net .disclosing l) (wf .disclosed l (condition-lt net l c)))
+    heard-is done s cs sd so l c = so l c (sd .0 (net .disclosing l) (condition-point net wf l c))
     heard-is (node m next) s cs sd so l c =
         let o = outcomeOf net m cs in
         heard-is (next o) (after net s m o) cs (sd .1 o (outcome-is m cs)) (λ k d e. by-test (bit (m .points) (net .disclosing k))
         (λ y. heard-new net s m o k d y ∙ outcome-at m cs k d y)
         (λ n. heard-old net s m o k d n ∙ so k d (by-test (bit (s .left) (net .disclosing k))
-        (λ z. clash (stays-left net s m o (net .disclosing k) (wf .disclosed k (condition-lt net k d)) z n) e) (λ z. z)))) l c
+        (λ z. clash (stays-left net s m o (net .disclosing k) (condition-point net wf k d) z n) e) (λ z. z)))) l c
 
     -- two scenarios that agree on what is heard before the slot of X come to the same slot and choices of X
     pub same : (t : Tree) (s : State) (cs cs′ X : ℕ) → Sound net End t s → X < net .points → bit (s .left) X ≡ true
@@ -114,9 +125,9 @@ module _ (net : Network) (wf : IsNetwork net) where
         (λ n. let lower = slot-open (next o) (after net s m o) cs X (sd .1 o (outcome-is m cs)) h (stays-left net s m o X h e n) in
         let q = open-is net s m o in
         let oe : outcomeOf net m cs ≡ outcomeOf net m cs′ = outcome-cong m cs cs′ (λ l c y.
-        let f = slot-first m next s cs (net .disclosing l) sd (wf .disclosed l (condition-lt net l c)) y in
+        let f = slot-first m next s cs (net .disclosing l) sd (condition-point net wf l c) y in
         agree l c (sd .0 .not-yet (net .disclosing l) y) (omega arith)) in
         subst (λ (x : ℕ). (play net (next x) (after net s m x) cs′ .slots X ≡ play net (next o) (after net s m o) cs .slots X)
         × ((l : ℕ) → decision net l ≡ true → net .disclosing l ≡ X → bit (play net (next o) (after net s m o) cs .decided) l ≡ bit (play net (next x) (after net s m x) cs′ .decided) l))
         oe (same (next o) (after net s m o) cs cs′ X (sd .1 o (outcome-is m cs)) h (stays-left net s m o X h e n)
-        (λ l c z lt. agree l c (was-left net s m o (net .disclosing l) (wf .disclosed l (condition-lt net l c)) z .0) lt)))
+        (λ l c z lt. agree l c (was-left net s m o (net .disclosing l) (condition-point net wf l c) z .0) lt)))

@@ -8,20 +8,23 @@ use native.Mathlib.Omega.{arith}
 use native.Mathlib.Nat.{not-suc-le-zero}
 use native.Mathlib.Decide.{decLt, ℕ-discrete}
 use lib.Dec.{eqb, ltb}
-use Rattle.network.specs.Mask.{bit, mask, count, anyBelow, firstBelow}
+use Rattle.network.specs.Mask.{bit, mask, anyBelow}
 use Rattle.network.specs.Network.{Network, condition, decision, IsNetwork}
-use Rattle.network.specs.Strategy.{ConditionScenario, Strategy, Viable, InHistory, SameHistory, Dynamic, Consistent}
+use Rattle.network.specs.Strategy.{ConditionScenario, Strategy, Viable, SameHistory, Dynamic, Consistent}
 use Rattle.network.specs.Policy.{Action, Observation, Policy, observe, heardBefore, actionIn, performsIn, slotBy, choicesBy, Succeeds, SucceedsAlways}
-use Rattle.network.proofs.Booleans.{by-test, clash, and-left, and-right, ltb-yes, ltb-no, eqb-yes, eqb-no, eqb-is}
-use Rattle.network.proofs.BelowLaws.{any-make, first-at, before-first, first-le, first-same, count-cong, any-counted, count-one}
+use Rattle.network.proofs.Booleans.{by-test, and-left, and-right, ltb-yes, ltb-no, eqb-yes, eqb-no, eqb-is}
+use Rattle.network.proofs.BelowLaws.{any-make, first-at, first-le, first-same, count-cong, any-counted, count-one}
 use Rattle.network.proofs.MaskLaws.{bit-mask, in-mask, mask-cong}
-use Rattle.network.proofs.NetworkLaws.{condition-lt, decision-lt, combined-cong, keeps-cong}
+use Rattle.network.proofs.NetworkLaws.{condition-lt, decision-lt, combined-cong, keeps-cong, condition-point, decision-point}
 use Rattle.network.proofs.StrategyTree.{same-history, swap}
 
 -- ---- from a policy to a strategy
 
 module _ (net : Network) (wf : IsNetwork net) (π : Policy) where
-  observe-eq : (d : Action) (cs cs′ : ℕ) → ((l : ℕ) → condition net l ≡ true → bit (d .points) (net .disclosing l) ≡ true → bit cs l ≡ bit cs′ l) → observe net d cs ≡ observe net d cs′
+  observe-eq :
+      (d : Action) (cs cs′ : ℕ) →
+      ((l : ℕ) → condition net l ≡ true → bit (d .points) (net .disclosing l) ≡ true → bit cs l ≡ bit cs′ l) →
+      observe net d cs ≡ observe net d cs′
   unfolding observe
   observe-eq d cs cs′ h =
       ap (λ (x : ℕ). record { conditions = mask (net .letters) (λ l. condition net l && bit (d .points) (net .disclosing l)); true-ones = x })
@@ -30,7 +33,9 @@ module _ (net : Network) (wf : IsNetwork net) (π : Policy) where
       (λ n. rw n)))
 
   -- what is heard before slot u is the same where the conditions heard by then are
-  heard-same : (u cs cs′ : ℕ) → ((l : ℕ) → condition net l ≡ true → slotBy net π cs (net .disclosing l) < u → bit cs l ≡ bit cs′ l) → heardBefore net π cs u ≡ heardBefore net π cs′ u
+  heard-same :
+      (u cs cs′ : ℕ) → ((l : ℕ) → condition net l ≡ true → slotBy net π cs (net .disclosing l) < u → bit cs l ≡ bit cs′ l) →
+      heardBefore net π cs u ≡ heardBefore net π cs′ u
   unfolding heardBefore
   heard-same zero cs cs′ h = refl
   heard-same (suc u) cs cs′ h =
@@ -45,7 +50,9 @@ module _ (net : Network) (wf : IsNetwork net) (π : Policy) where
     abbrev σ : Strategy
     σ = record { time = slotBy net π; choice = choicesBy net π }
 
-    somewhere : (cs : ℕ) → ConditionScenario net cs → (x : ℕ) → x < net .points → anyBelow (suc (net .horizon)) (performsIn net π cs x) ≡ true
+    somewhere :
+        (cs : ℕ) → ConditionScenario net cs → (x : ℕ) → x < net .points →
+        anyBelow (suc (net .horizon)) (performsIn net π cs x) ≡ true
     somewhere cs k x h = any-counted (suc (net .horizon)) (performsIn net π cs x) (win cs k .once x h)
 
     module _ (cs cs′ : ℕ) (k : ConditionScenario net cs) (x : ℕ) (h : x < net .points) (sh : SameHistory net σ (slotBy net π cs x) cs cs′) where
@@ -69,7 +76,7 @@ module _ (net : Network) (wf : IsNetwork net) (π : Policy) where
       dynamic = record {
         times = λ cs cs′ k k′ x h sh. same-slot cs cs′ k x h sh;
         choices = λ cs cs′ k k′ l d sh.
-            let h = wf .disclosed l (decision-lt net l d) in
+            let h = decision-point net wf l d in
             let t = slotBy net π cs (net .disclosing l) in
             bit-mask (net .letters) _ l (decision-lt net l d)
             ∙ ap (λ (x : Bool). decision net l && x)
@@ -119,7 +126,9 @@ module _ (net : Network) (wf : IsNetwork net) (σ : Strategy) (dy : Dynamic net 
           ∙ sym (eqb-no (σ .time cs x) u (λ e. omega arith)))
           (λ by-now. ap (λ (v : ℕ). eqb v u) (dy .times cs (known (before u)) k (known-cs (before u)) x h (history (σ .time cs x) (omega arith))))
 
-    seen-next : (u l : ℕ) → (b : Bool) → ((eqb (σ .time cs (net .disclosing l)) u && b) || (ltb (σ .time cs (net .disclosing l)) u && b)) ≡ (ltb (σ .time cs (net .disclosing l)) (suc u) && b)
+    seen-next :
+        (u l : ℕ) → (b : Bool) →
+        ((eqb (σ .time cs (net .disclosing l)) u && b) || (ltb (σ .time cs (net .disclosing l)) u && b)) ≡ (ltb (σ .time cs (net .disclosing l)) (suc u) && b)
     seen-next u l false = rw (and-false (eqb (σ .time cs (net .disclosing l)) u), and-false (ltb (σ .time cs (net .disclosing l)) u), and-false (ltb (σ .time cs (net .disclosing l)) (suc u)))
     seen-next u l true = by-cases (decLt (σ .time cs (net .disclosing l)) u)
         (λ lt. rw (eqb-no (σ .time cs (net .disclosing l)) u (λ e. omega arith), ltb-yes (σ .time cs (net .disclosing l)) u lt, ltb-yes (σ .time cs (net .disclosing l)) (suc u) (omega arith)))
@@ -131,7 +140,7 @@ module _ (net : Network) (wf : IsNetwork net) (σ : Strategy) (dy : Dynamic net 
     unfolding heardBefore observe trueIn
     seen zero l c = rw (ltb-no (σ .time cs (net .disclosing l)) zero (λ h. absurd (not-suc-le-zero h)))
     seen (suc u) l c =
-        let h = wf .disclosed l (condition-lt net l c) in
+        let h = condition-point net wf l c in
         let d = actionIn-is u (seen u) (net .disclosing l) h in
         let a = bit-mask (net .letters) (λ i. (condition net i && bit (actionIn net policyOf cs u .points) (net .disclosing i)) && bit cs i) l (condition-lt net l c) in
         ap (λ (x : Bool). x || trueIn (before u) l) (a ∙ ap (λ (x : Bool). (x && bit (actionIn net policyOf cs u .points) (net .disclosing l)) && bit cs l) c ∙ ap (λ (x : Bool). x && bit cs l) d)
@@ -154,7 +163,7 @@ module _ (net : Network) (wf : IsNetwork net) (σ : Strategy) (dy : Dynamic net 
       once = λ x h. count-cong (suc (net .horizon)) (performsIn net policyOf cs x) (λ u. eqb (σ .time cs x) u) (λ u lt. does x h u)
           ∙ count-one (suc (net .horizon)) (σ .time cs x) (let w = vi .within cs k x h in omega arith);
       keeping = keeps-cong net wf _ _ _ _ (λ x h. slot-by x h) (combined-cong net _ _ _ _ (λ l c. refl) (λ l d.
-          let h = wf .disclosed l (decision-lt net l d) in
+          let h = decision-point net wf l d in
           let t = σ .time cs (net .disclosing l) in
           bit-mask (net .letters) _ l (decision-lt net l d)
           ∙ ap (λ (x : Bool). x && bit (actionIn net policyOf cs (slotBy net policyOf cs (net .disclosing l)) .choices) l) d

@@ -1,12 +1,12 @@
 -- Laws of the computed search: its numbered moves are the legal moves in their order, and it finds the first winning one. Only the checker
 -- need believe this file.
-use mathlib.Core.Path.{_≡_, refl, sym, ap, _∙_, subst}
-use mathlib.Core.Logic.{_↔_, _⊎_, inl, inr}
-use mathlib.Core.Bool.{Bool, true, false, not, cond, _&&_}
-use Prim.Native.Nat.{ℕ, zero, suc, _+_, _-_, _^_, _≤_, _<_}
+use mathlib.Core.Path.{_≡_, sym, ap, _∙_, subst}
+use mathlib.Core.Logic.{_↔_, inl, inr}
+use mathlib.Core.Bool.{Bool, true}
+use Prim.Native.Nat.{ℕ, zero, suc, _-_, _<_}
 use native.Mathlib.Omega.{arith}
-use Rattle.network.specs.Mask.{bit, count, allBelow, anyBelow, firstBelow, submask}
-use Rattle.network.specs.Network.{Network, decision}
+use Rattle.network.specs.Mask.{bit, anyBelow, firstBelow, submask}
+use Rattle.network.specs.Network.{Network}
 use Rattle.network.specs.Game.{State, Move, settles, Legal, Outcome, outcomes, outcomeAt, after, Over}
 use Rattle.network.specs.FirstMoves.{Before}
 use Rattle.network.specs.Search.{over, slotAt, pointsAt, bare, choicesAt, moveAt, slotCount, pointsCount, choicesCount, winsBy, winsWith, winsIn, firstMove}

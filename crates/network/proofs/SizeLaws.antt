@@ -2,17 +2,17 @@
 -- Only the checker need believe this file.
 use mathlib.Core.Path.{_≡_, refl, sym, ap, _∙_}
 use mathlib.Core.Logic.{by-cases}
-use mathlib.Core.Bool.{Bool, true, false, not, _&&_, and-false, and-true}
+use mathlib.Core.Bool.{Bool, true, not, _&&_, and-false, and-true}
 use Prim.Native.Nat.{ℕ, zero, suc, _+_, _-_, _*_, _≤_, _<_, _^_}
 use native.Mathlib.Omega.{arith}
 use native.Mathlib.Nat.{not-suc-le-zero, pow-suc, mul-le-mul-left}
 use native.Mathlib.Decide.{decLt}
 use lib.Pow.{pow-add, pow-pos}
-use Rattle.network.specs.Mask.{bit, count, sumBelow}
+use Rattle.network.specs.Mask.{bit, count}
 use Rattle.network.specs.Network.{Network, condition, IsNetwork}
-use Rattle.network.specs.Game.{State, start, Move, hears, Legal, Outcome, outcomes, outcomeAt, after}
+use Rattle.network.specs.Game.{State, start, Move, hears, Legal, outcomes, outcomeAt, after}
 use Rattle.network.specs.Tree.{Tree, done, node, Sound, nodes}
-use Rattle.network.proofs.Booleans.{by-test, clash, and-right, and-make}
+use Rattle.network.proofs.Booleans.{by-test, and-right, and-make}
 use Rattle.network.proofs.BelowLaws.{count-le, count-cong, count-split, count-inj, count-some, sum-le}
 use Rattle.network.proofs.GameLaws.{heard-point, left-is, outcome-at-is}
 
@@ -152,5 +152,6 @@ module _ (net : Network) (wf : IsNetwork net) where
       let b = count-le (net .letters) (λ l. condition net l && bit (start net .left) (net .disclosing l)) in
       cap (conditionsLeft net (start net)) (pointsLeft net (start net) - conditionsLeft net (start net)) (omega arith) (omega arith)
 
-  pub at-most-191 : (t : Tree) (E : State → Type 0) → Sound net E t (start net) → net .points ≤ 8 → net .letters ≤ 6 → nodes net t ≤ 191
+  pub at-most-191 :
+      (t : Tree) (E : State → Type 0) → Sound net E t (start net) → net .points ≤ 8 → net .letters ≤ 6 → nodes net t ≤ 191
   at-most-191 t E sd hp hl = let a = nodes-fit t E (start net) sd in let b = start-room hp hl in omega arith

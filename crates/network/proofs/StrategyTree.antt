@@ -1,7 +1,7 @@
 -- Theorem 2, from strategies to trees: the agent wins by following a dynamic and viable strategy, slot by slot. Only the checker need
 -- believe this file.
 use mathlib.Core.Path.{_≡_, refl, sym, _∙_}
-use mathlib.Core.Logic.{_↔_, by-cases}
+use mathlib.Core.Logic.{by-cases}
 use mathlib.Core.Bool.{Bool, true, false, _&&_}
 use Prim.Native.Nat.{ℕ, zero, suc, _+_, _≤_, _<_, zero-le}
 use native.Mathlib.Omega.{arith}
@@ -11,14 +11,14 @@ use lib.Dec.{eqb}
 use Rattle.network.specs.Mask.{bit, mask, anyBelow}
 use Rattle.network.specs.Network.{Network, condition, decision, IsNetwork}
 use Rattle.network.specs.Strategy.{ConditionScenario, Strategy, Viable, InHistory, SameHistory, Dynamic, Consistent}
-use Rattle.network.specs.Game.{State, start, Move, hears, settles, Legal, after, Over, Kept}
+use Rattle.network.specs.Game.{State, start, Move, settles, Legal, after, Over, Kept}
 use Rattle.network.specs.Tree.{Tree, done, node, Sound}
 use Rattle.network.specs.FirstMoves.{CanBeWon}
 use Rattle.network.proofs.Booleans.{by-test, clash, and-left, and-right, differs, eqb-is}
 use Rattle.network.proofs.BelowLaws.{any-at, any-make}
-use Rattle.network.proofs.MaskLaws.{bit-zero, bit-mask, in-mask}
-use Rattle.network.proofs.NetworkLaws.{condition-lt, decision-lt, combined-cong, keeps-cong}
-use Rattle.network.proofs.GameLaws.{heard-condition, all-left, open-is, stays-left, was-left, was-performed, slot-new, slot-old, heard-old, decided-new, decided-old}
+use Rattle.network.proofs.MaskLaws.{bit-mask, in-mask}
+use Rattle.network.proofs.NetworkLaws.{decision-lt, combined-cong, keeps-cong, condition-point, decision-point}
+use Rattle.network.proofs.GameLaws.{all-left, open-is, was-left, was-performed, slot-new, slot-old, heard-old, decided-new, decided-old}
 use Rattle.network.proofs.TreeStrategy.{heard-scenario, start-scenario}
 
 module _ (net : Network) (wf : IsNetwork net) (σ : Strategy) (dy : Dynamic net σ) where
@@ -43,7 +43,7 @@ module _ (net : Network) (wf : IsNetwork net) (σ : Strategy) (dy : Dynamic net 
   )
     where
       point : condition net l ≡ true → net .disclosing l < net .points
-      point d = wf .disclosed l (condition-lt net l d)
+      point d = condition-point net wf l d
 
       widen : (x : ℕ) → InHistory net σ u x l v → InHistory net σ (suc u) x l v
       widen x h = let b = h .before in record { contingent = h .contingent; before = omega arith; valued = h .valued }
@@ -59,9 +59,12 @@ module _ (net : Network) (wf : IsNetwork net) (σ : Strategy) (dy : Dynamic net 
   pub record Following (s : State) (e : ℕ) : Type 0 where
     pub scenario : ConditionScenario net (s .heard)
     pub clock : s .open-from ≤ e
-    pub past : (p : ℕ) → p < net .points → bit (s .left) p ≡ false → (σ .time (s .heard) p ≡ s .slots p) × (σ .time (s .heard) p < e)
+    pub past :
+        (p : ℕ) → p < net .points → bit (s .left) p ≡ false → (σ .time (s .heard) p ≡ s .slots p) × (σ .time (s .heard) p < e)
     pub future : (p : ℕ) → p < net .points → bit (s .left) p ≡ true → e ≤ σ .time (s .heard) p
-    pub decided : (l : ℕ) → decision net l ≡ true → bit (s .left) (net .disclosing l) ≡ false → bit (s .decided) l ≡ bit (σ .choice (s .heard)) l
+    pub decided :
+        (l : ℕ) → decision net l ≡ true → bit (s .left) (net .disclosing l) ≡ false →
+        bit (s .decided) l ≡ bit (σ .choice (s .heard)) l
 
   -- whether the strategy performs p now
   abbrev pub due : State → ℕ → ℕ → Bool
@@ -99,7 +102,9 @@ module _ (net : Network) (wf : IsNetwork net) (σ : Strategy) (dy : Dynamic net 
     unfolding moveNow
     slot-now = refl
 
-    choice-now : (l : ℕ) → decision net l ≡ true → bit (m .points) (net .disclosing l) ≡ true → bit (m .choices) l ≡ bit (σ .choice (s .heard)) l
+    choice-now :
+        (l : ℕ) → decision net l ≡ true → bit (m .points) (net .disclosing l) ≡ true →
+        bit (m .choices) l ≡ bit (σ .choice (s .heard)) l
     unfolding moveNow
     choice-now l d y = bit-mask (net .letters) _ l (decision-lt net l d) ∙ rw (d, y)
 
@@ -151,7 +156,8 @@ module _ (net : Network) (wf : IsNetwork net) (σ : Strategy) (dy : Dynamic net 
       settled : (p : ℕ) → p < net .points → σ .time c p ≤ e → σ .time c′ p ≡ σ .time c p
       settled p h le = dy .times c c′ (fo .scenario) scenario′ p h (history (σ .time c p) le)
 
-      settled-choice : (l : ℕ) → decision net l ≡ true → σ .time c (net .disclosing l) ≤ e → bit (σ .choice c) l ≡ bit (σ .choice c′) l
+      settled-choice :
+          (l : ℕ) → decision net l ≡ true → σ .time c (net .disclosing l) ≤ e → bit (σ .choice c) l ≡ bit (σ .choice c′) l
       settled-choice l d le = dy .choices c c′ (fo .scenario) scenario′ l d (history (σ .time c (net .disclosing l)) le)
 
       pub next : Following (after net s m o) (suc e)
@@ -164,7 +170,7 @@ module _ (net : Network) (wf : IsNetwork net) (σ : Strategy) (dy : Dynamic net 
         future = λ p h b. let w = was-left net s m o p h b in let nd = not-due p h (w .0) (w .1) in
             by-cases (decLt e (σ .time c′ p)) (λ lt. lt)
             (λ ge. let r = dy .times c′ c scenario′ (fo .scenario) p h (swap (history (σ .time c′ p) (omega arith))) in absurd (omega arith));
-        decided = λ l d b. let h = wf .disclosed l (decision-lt net l d) in by-test (bit (m .points) (net .disclosing l))
+        decided = λ l d b. let h = decision-point net wf l d in by-test (bit (m .points) (net .disclosing l))
             (λ y. let q = due-time (net .disclosing l) y in decided-new net s m o l d y ∙ choice-now l d y ∙ settled-choice l d (omega arith))
             (λ n. let gone = was-performed net s m o (net .disclosing l) h b n in let g = fo .past (net .disclosing l) h gone .1 in
             decided-old net s m o l d n ∙ fo .decided l d gone ∙ settled-choice l d (omega arith));
@@ -174,7 +180,7 @@ module _ (net : Network) (wf : IsNetwork net) (σ : Strategy) (dy : Dynamic net 
     pub kept-at-end : (s : State) (e : ℕ) → Following s e → Over net s → Kept net s
     kept-at-end s e fo over =
         keeps-cong net wf _ _ _ _ (λ p h. sym (fo .past p h (over p h) .0))
-        (combined-cong net _ _ _ _ (λ l d. refl) (λ l d. fo .decided l d (over (net .disclosing l) (wf .disclosed l (decision-lt net l d)))))
+        (combined-cong net _ _ _ _ (λ l d. refl) (λ l d. fo .decided l d (over (net .disclosing l) (decision-point net wf l d))))
         ∙ vi .keeping (s .heard) (fo .scenario)
 
     -- the clock is past the horizon: all is performed
@@ -201,7 +207,7 @@ module _ (net : Network) (wf : IsNetwork net) (σ : Strategy) (dy : Dynamic net 
     clock = zero-le;
     past = λ p h b. clash (all-left net p h) b;
     future = λ p h b. zero-le;
-    decided = λ l d b. clash (all-left net (net .disclosing l) (wf .disclosed l (decision-lt net l d))) b;
+    decided = λ l d b. clash (all-left net (net .disclosing l) (decision-point net wf l d)) b;
   }
 
 -- from any dynamic and viable strategy the game is won

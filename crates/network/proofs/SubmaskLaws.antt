@@ -7,8 +7,7 @@ use native.Mathlib.Omega.{arith}
 use native.Mathlib.Nat.{not-suc-le-zero, pow-suc, zero-add}
 use native.Mathlib.Decide.{decLt}
 use lib.Dec.{eqb}
-use lib.Pow.{pow-pos}
-use Rattle.network.specs.Mask.{bit, digit, mask, count, submask}
+use Rattle.network.specs.Mask.{bit, mask, count, submask}
 use Rattle.network.proofs.Booleans.{by-test, clash, differs, eqb-is}
 use Rattle.network.proofs.BelowLaws.{count-cong, count-empty}
 use Rattle.network.proofs.MaskLaws.{bit-zero, no-bits, low-digit, high-digits}
@@ -28,7 +27,8 @@ rank-lt (suc n) f m =
     let r = rank-lt n (λ i. f (suc i)) (m / 2) in
     by-test (f zero) (λ y. rw y (rw double (omega arith))) (λ z. rw z (rw zero-add r))
 
-pub submask-rank : (n : ℕ) (f : ℕ → Bool) (m : ℕ) → ((i : ℕ) → bit m i ≡ true → (i < n) × (f i ≡ true)) → submask n f (rank n f m) ≡ m
+pub submask-rank :
+    (n : ℕ) (f : ℕ → Bool) (m : ℕ) → ((i : ℕ) → bit m i ≡ true → (i < n) × (f i ≡ true)) → submask n f (rank n f m) ≡ m
 unfolding rank submask bit
 submask-rank zero f m k = sym (no-bits m (λ i. by-test (bit m i) (λ y. absurd (not-suc-le-zero (k i y .0))) (λ z. z)))
 submask-rank (suc n) f m k =

@@ -6,7 +6,7 @@ use mathlib.Core.Bool.{true, false}
 use Prim.Native.Nat.{ℕ, suc, _*_, _≤_, _<_}
 use Rattle.network.specs.Network.{Network, IsNetwork}
 use Rattle.network.specs.Strategy.{Viable, Dynamic, Consistent}
-use Rattle.network.specs.Game.{State, start, Move, Legal, outcomes, after, Over, Kept}
+use Rattle.network.specs.Game.{State, start, Move, Legal, outcomes, after}
 use Rattle.network.specs.Tree.{Tree, Sound, Shaped, Wins, strategyOf, nodes}
 use Rattle.network.specs.FirstMoves.{CanBeWon, FirstMoves, SameTree}
 use Rattle.network.specs.Search.{firstTree, hopeless}

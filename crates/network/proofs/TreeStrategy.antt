@@ -2,19 +2,17 @@
 -- this file.
 use mathlib.Core.Path.{_≡_, refl, sym, _∙_, subst}
 use mathlib.Core.Logic.{_↔_}
-use mathlib.Core.Bool.{Bool, true, false}
-use Prim.Native.Nat.{ℕ, _≤_, _<_}
-use native.Mathlib.Omega.{arith}
+use mathlib.Core.Bool.{true, false}
+use Prim.Native.Nat.{ℕ, _<_}
 use Rattle.network.specs.Mask.{bit}
-use Rattle.network.specs.Network.{Network, condition, decision, combined, keeps, IsNetwork}
-use Rattle.network.specs.Strategy.{ConditionScenario, Strategy, Viable, InHistory, SameHistory, Dynamic, Consistent}
+use Rattle.network.specs.Network.{Network, condition, combined, keeps, IsNetwork}
+use Rattle.network.specs.Strategy.{ConditionScenario, Viable, SameHistory, Dynamic, Consistent}
 use Rattle.network.specs.Game.{State, start, Move, hears, Legal, Outcome, after, Kept}
 use Rattle.network.specs.Tree.{Tree, done, node, Sound, Shaped, Wins, outcomeOf, play, strategyOf}
-use Rattle.network.specs.FirstMoves.{CanBeWon}
-use Rattle.network.proofs.Booleans.{by-test, clash, and-left}
+use Rattle.network.proofs.Booleans.{by-test, clash}
 use Rattle.network.proofs.MaskLaws.{bit-zero, bits-ext, in-mask}
-use Rattle.network.proofs.NetworkLaws.{condition-lt, decision-lt, combined-cong, keeps-cong}
-use Rattle.network.proofs.GameLaws.{heard-condition, heard-point, outcome-outside, all-left, performed, stays-performed, heard-new, heard-old}
+use Rattle.network.proofs.NetworkLaws.{combined-cong, keeps-cong, condition-point, decision-point}
+use Rattle.network.proofs.GameLaws.{heard-condition, heard-point, outcome-outside, all-left, performed, stays-performed, heard-new, heard-old, not-again}
 use Rattle.network.proofs.PathLaws.{outcome-is, outcome-at, slot-open, ends, heard-is, same}
 
 module _ (net : Network) (wf : IsNetwork net) where
@@ -25,7 +23,7 @@ module _ (net : Network) (wf : IsNetwork net) where
     dynamic = record {
       times = λ cs cs′ k k′ X h sh. same net wf End t (start net) cs cs′ X sd h (all-left net X h) (agree cs cs′ X sh) .0;
       choices = λ cs cs′ k k′ l d sh.
-          let h = wf .disclosed l (decision-lt net l d) in
+          let h = decision-point net wf l d in
           same net wf End t (start net) cs cs′ (net .disclosing l) sd h (all-left net (net .disclosing l) h) (agree cs cs′ (net .disclosing l) sh) .1 l d refl;
     }
       where
@@ -38,9 +36,11 @@ module _ (net : Network) (wf : IsNetwork net) where
     at-end : (cs l : ℕ) → l < net .letters
         → combined net (play net t (start net) cs .heard) (play net t (start net) cs .decided) l ≡ combined net cs (play net t (start net) cs .decided) l
     at-end cs = combined-cong net _ _ _ _
-        (heard-is net wf End t (start net) cs sd (λ l c e. clash (all-left net (net .disclosing l) (wf .disclosed l (condition-lt net l c))) e)) (λ l d. refl)
+        (heard-is net wf End t (start net) cs sd (λ l c e. clash (all-left net (net .disclosing l) (condition-point net wf l c)) e)) (λ l d. refl)
 
-    kept-is : (cs : ℕ) → keeps net (play net t (start net) cs .slots) (combined net (play net t (start net) cs .heard) (play net t (start net) cs .decided))
+    kept-is :
+        (cs : ℕ) →
+        keeps net (play net t (start net) cs .slots) (combined net (play net t (start net) cs .heard) (play net t (start net) cs .decided))
         ≡ keeps net (strategyOf net t .time cs) (combined net cs (strategyOf net t .choice cs))
     unfolding strategyOf
     kept-is cs = keeps-cong net wf _ _ _ _ (λ p h. refl) (at-end cs)
@@ -62,7 +62,8 @@ module _ (net : Network) (wf : IsNetwork net) where
   abbrev pub Fits : State → ℕ → Type 0
   Fits s cs = (l : ℕ) → condition net l ≡ true → bit (s .left) (net .disclosing l) ≡ false → bit (s .heard) l ≡ bit cs l
 
-  pub heard-scenario : (s : State) (m : Move) (o : ℕ) → ConditionScenario net (s .heard) → ConditionScenario net (after net s m o .heard)
+  pub heard-scenario :
+      (s : State) (m : Move) (o : ℕ) → ConditionScenario net (s .heard) → ConditionScenario net (after net s m o .heard)
   unfolding after
   heard-scenario s m o k l b =
       let r = in-mask (net .letters) _ l b .1 in
@@ -74,16 +75,15 @@ module _ (net : Network) (wf : IsNetwork net) where
       (λ y. let c = heard-condition net m l y in
       let b = heard-point net m l y in
       outcome-at net wf m cs l c b
-      ∙ sym (f l c (performed net s m o (net .disclosing l) (wf .disclosed l (condition-lt net l c)) b))
+      ∙ sym (f l c (performed net s m o (net .disclosing l) (condition-point net wf l c) b))
       ∙ heard-new net s m o l c b)
       (λ z. outcome-outside net m (outcomeOf net m cs) (outcome-is net wf m cs) l z ∙ sym (outcome-outside net m o k l z)))
 
   pub fits-before : (s : State) (m : Move) (o cs : ℕ) → Legal net s m → Fits (after net s m o) cs → Fits s cs
   fits-before s m o cs lg f l c e =
-      let n : bit (m .points) (net .disclosing l) ≡ false = by-test (bit (m .points) (net .disclosing l))
-      (λ y. clash (lg .not-yet (net .disclosing l) y) e) (λ z. z) in
+      let n : bit (m .points) (net .disclosing l) ≡ false = not-again net s m lg (net .disclosing l) e in
       sym (heard-old net s m o l c n)
-      ∙ f l c (stays-performed net s m o (net .disclosing l) (wf .disclosed l (condition-lt net l c)) e)
+      ∙ f l c (stays-performed net s m o (net .disclosing l) (condition-point net wf l c) e)
 
   -- where each scenario's path ends well, all paths do
   all-paths :

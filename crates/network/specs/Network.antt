@@ -1,6 +1,6 @@
 -- Definitions 1 to 5 of the paper (document 000), in whole slots: label, network, scenario, projection, schedule. A reader must believe this file.
 use mathlib.Core.Path.{_≡_}
-use mathlib.Core.Bool.{Bool, true, false, not, cond, _&&_, _||_, Bool·beq}
+use mathlib.Core.Bool.{Bool, true, not, cond, _&&_, _||_, Bool·beq}
 use mathlib.Core.List.{List, [], _∷_}
 use Prim.Native.Nat.{ℕ, suc, _+_, _<_}
 use lib.IntN.{ℤ, pos, negsuc}

@@ -1,6 +1,6 @@
 -- Definitions: the search, computed: whether the game can be won, the first winning move, the tree of first moves, "hopeless". A reader
 -- need not believe this file for its own sake: proofs/Theorems.antt ties `hopeless` and `firstTree` to the definitions before it.
-use mathlib.Core.Bool.{Bool, true, false, not, cond, _&&_}
+use mathlib.Core.Bool.{Bool, not, cond, _&&_}
 use Prim.Native.Nat.{ℕ, zero, suc, _+_, _-_, _^_}
 use Rattle.network.specs.Mask.{bit, allBelow, anyBelow, firstBelow, count, submask}
 use Rattle.network.specs.Network.{Network, combined, keeps}

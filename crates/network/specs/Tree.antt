@@ -1,6 +1,5 @@
 -- Definitions: strategy trees, what makes one sound, the strategy that one describes, its number of nodes. A reader must believe this file.
-use mathlib.Core.Path.{_≡_}
-use mathlib.Core.Bool.{Bool, true, _&&_}
+use mathlib.Core.Bool.{_&&_}
 use Prim.Native.Nat.{ℕ, suc}
 use mathlib.Core.List.{List, [], _∷_}
 use Rattle.network.specs.Mask.{bit, mask, sumBelow, joinBelow}
