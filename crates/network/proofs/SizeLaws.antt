@@ -11,7 +11,7 @@ use lib.Pow.{pow-add, pow-pos}
 use Rattle.network.specs.Mask.{bit, count}
 use Rattle.network.specs.Network.{Network, condition, IsNetwork}
 use Rattle.network.specs.Game.{State, start, Move, hears, Legal, outcomes, outcomeAt, after}
-use Rattle.network.specs.Tree.{Tree, done, node, Sound, nodes}
+use Rattle.network.specs.Tree.{Tree, done, node, Sound, nodes, pointsLeft, conditionsLeft, room}
 use Rattle.network.proofs.Booleans.{by-test, and-right, and-make}
 use Rattle.network.proofs.BelowLaws.{count-le, count-cong, count-split, count-inj, count-some, sum-le}
 use Rattle.network.proofs.GameLaws.{heard-point, left-is, outcome-at-is}
@@ -51,16 +51,6 @@ cap (suc (suc (suc (suc (suc (suc zero)))))) d h k = omega arith
 cap (suc (suc (suc (suc (suc (suc (suc c))))))) d h k = absurd (omega arith)
 
 -- ---- a state's room
-
--- points left; conditions left to hear; the bound that they give
-abbrev pub pointsLeft : Network → State → ℕ
-pointsLeft net s = count (net .points) (bit (s .left))
-
-abbrev pub conditionsLeft : Network → State → ℕ
-conditionsLeft net s = count (net .letters) (λ l. condition net l && bit (s .left) (net .disclosing l))
-
-unfoldable pub room : Network → State → ℕ
-room net s = 2 ^ conditionsLeft net s * (pointsLeft net s - conditionsLeft net s + 1)
 
 module _ (net : Network) (wf : IsNetwork net) where
   -- each condition has a point of its own

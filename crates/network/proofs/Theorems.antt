@@ -7,14 +7,13 @@ use Prim.Native.Nat.{ℕ, suc, _*_, _≤_, _<_}
 use Rattle.network.specs.Network.{Network, IsNetwork}
 use Rattle.network.specs.Strategy.{Viable, Dynamic, Consistent}
 use Rattle.network.specs.Game.{State, start, Move, Legal, outcomes, after}
-use Rattle.network.specs.Tree.{Tree, Sound, Shaped, Wins, strategyOf, nodes}
+use Rattle.network.specs.Tree.{Tree, Sound, Shaped, Wins, strategyOf, nodes, room}
 use Rattle.network.specs.FirstMoves.{CanBeWon, FirstMoves, SameTree}
 use Rattle.network.specs.Search.{firstTree, hopeless}
 use Rattle.network.specs.Policy.{Policy, SucceedsAlways}
 use Rattle.network.specs.Crew.{Step, Follows, AtEnd, HeardAlike, ToldAlike}
 use Rattle.network.proofs.TreeStrategy as tree
 use Rattle.network.proofs.FirstLaws as first
-use Rattle.network.proofs.SizeLaws.{room}
 use Rattle.network.proofs.SizeLaws as size
 use Rattle.network.proofs.PolicyLaws as policy
 use Rattle.network.proofs.CrewLaws as crew

@@ -1,8 +1,8 @@
--- Definitions 1 to 5 of the paper (document 000), in whole slots: label, network, scenario, projection, schedule. A reader must believe this file.
+-- Definitions 1 to 5 of the paper (document 000): label, network, scenario, projection, schedule. A reader must believe this file.
 use mathlib.Core.Path.{_≡_}
 use mathlib.Core.Bool.{Bool, true, not, cond, _&&_, _||_, Bool·beq}
 use mathlib.Core.List.{List, [], _∷_}
-use Prim.Native.Nat.{ℕ, suc, _+_, _<_}
+use Prim.Native.Nat.{ℕ, suc, _+_, _≤_, _<_}
 use lib.IntN.{ℤ, pos, negsuc}
 use lib.Dec.{leb, ltb}
 use Rattle.network.specs.Mask.{bit, allBelow}
@@ -91,8 +91,10 @@ pub record InNetwork (net : Network) (c : Constraint) : Type 0 where
   pub to-point : c .to < net .points
   pub over-letters : (l : ℕ) → bit (c .label .need) l ≡ true → l < net .letters
 
--- What Definition 2 asks of the parts: O is one to one from P into T, and the constraints are over T and P.
+-- What Definition 2 asks of the parts: O is one to one from P into T, and the constraints are over T and P. Masks are bytes, so P has at
+-- most eight letters.
 pub record IsNetwork (net : Network) : Type 0 where
+  pub letters-in-a-byte : net .letters ≤ 8
   pub disclosed : (l : ℕ) → l < net .letters → net .disclosing l < net .points
   pub own : (l k : ℕ) → l < net .letters → k < net .letters → net .disclosing l ≡ net .disclosing k → l ≡ k
   pub in-network : Each (InNetwork net) (net .constraints)

@@ -1,9 +1,9 @@
 -- Definitions: strategy trees, what makes one sound, the strategy that one describes, its number of nodes. A reader must believe this file.
 use mathlib.Core.Bool.{_&&_}
-use Prim.Native.Nat.{ℕ, suc}
+use Prim.Native.Nat.{ℕ, suc, _+_, _-_, _*_, _^_}
 use mathlib.Core.List.{List, [], _∷_}
-use Rattle.network.specs.Mask.{bit, mask, sumBelow, joinBelow}
-use Rattle.network.specs.Network.{Network}
+use Rattle.network.specs.Mask.{bit, mask, count, sumBelow, joinBelow}
+use Rattle.network.specs.Network.{Network, condition}
 use Rattle.network.specs.Strategy.{Strategy}
 use Rattle.network.specs.Game.{State, start, Move, hears, Legal, Outcome, outcomes, outcomeAt, after, Over, Kept}
 
@@ -47,3 +47,14 @@ preorder net (node m next) = m ∷ joinBelow (outcomes net m) (λ k. preorder ne
 unfoldable pub nodes : Network → Tree → ℕ
 nodes net done = 0
 nodes net (node m next) = suc (sumBelow (outcomes net m) (λ k. nodes net (next (outcomeAt net m k))))
+
+-- The room that a state leaves: 2 ^ c * (d + 1), where c conditions are left to hear and d other points are left to perform. A sound tree
+-- from there has fewer nodes.
+abbrev pub pointsLeft : Network → State → ℕ
+pointsLeft net s = count (net .points) (bit (s .left))
+
+abbrev pub conditionsLeft : Network → State → ℕ
+conditionsLeft net s = count (net .letters) (λ l. condition net l && bit (s .left) (net .disclosing l))
+
+unfoldable pub room : Network → State → ℕ
+room net s = 2 ^ conditionsLeft net s * (pointsLeft net s - conditionsLeft net s + 1)
