@@ -1,10 +1,11 @@
 -- Laws of tests, counts and sums over the numbers below a bound. Only the checker need believe this file.
 use mathlib.Core.Path.{_≡_, refl, sym, _∙_}
 use mathlib.Core.Logic.{by-cases}
-use mathlib.Core.Bool.{Bool, true, false, not, _&&_}
+use mathlib.Core.Bool.{Bool, true, false, not, _&&_, and-true, and-assoc}
 use Prim.Native.Nat.{ℕ, zero, suc, _+_, _*_, _≤_, _<_}
 use native.Mathlib.Omega.{arith}
 use native.Mathlib.Nat.{not-suc-le-zero}
+use native.Mathlib.Numerals.{add-one}
 use native.Mathlib.Decide.{decLt, ℕ-discrete}
 use lib.Dec.{eqb}
 use Rattle.network.specs.Mask.{digit, count, allBelow, anyBelow, firstBelow, sumBelow}
@@ -45,6 +46,30 @@ pub all-cong : (n : ℕ) (f g : ℕ → Bool) → ((i : ℕ) → i < n → f i �
 unfolding allBelow
 all-cong zero f g h = refl
 all-cong (suc n) f g h = rw (h n (omega arith), all-cong n f g (λ i lt. h i (omega arith)))
+
+-- ---- one after another, as a loop does (it adds 1)
+
+module _ (f : ℕ → Bool) where
+  pub all-start : allBelow 0 f ≡ true
+  unfolding allBelow
+  all-start = refl
+
+  pub all-next : (n : ℕ) → allBelow n f ≡ true → f n ≡ true → allBelow (n + 1) f ≡ true
+  unfolding allBelow
+  all-next n s t = rw add-one (and-make s t)
+
+  pub all-fails : (n i : ℕ) → i < n → f i ≡ false → allBelow n f ≡ false
+  all-fails n i h z = by-test (allBelow n f) (λ y. clash (all-at n f y i h) z) (λ e. e)
+
+  pub any-next : (n : ℕ) → anyBelow n f ≡ false → f n ≡ false → anyBelow (n + 1) f ≡ false
+  unfolding anyBelow
+  any-next n s t = rw (add-one, s, t)
+
+-- the first one apart
+pub all-first : (n : ℕ) (f : ℕ → Bool) → allBelow (suc n) f ≡ (f zero && allBelow n (λ i. f (suc i)))
+unfolding allBelow
+all-first zero f = sym (and-true (f zero))
+all-first (suc n) f = rw (all-first n f) (and-assoc (f zero) (allBelow n (λ i. f (suc i))) (f (suc n)))
 
 -- ---- the first
 

@@ -28,6 +28,13 @@ pub not-false : (b : Bool) → not b ≡ false → b ≡ true
 not-false true e = refl
 not-false false e = sym e
 
+-- what is promised of a result, where `if !f(..)` was taken, and where it was left
+pub denied : {a b : Bool} → a ≡ b → not a ≡ true → b ≡ false
+denied {a} e t = sym e ∙ not-true a t
+
+pub granted : {a b : Bool} → a ≡ b → not a ≡ false → b ≡ true
+granted {a} e t = sym e ∙ not-false a t
+
 pub and-left : (a b : Bool) → (a && b) ≡ true → a ≡ true
 and-left true b t = refl
 and-left false b t = t

@@ -1,17 +1,18 @@
 -- Laws of the machine's operations on masks: and, or, xor, difference, shift, count of ones, trailing zeros, bit by bit. Only the checker
 -- need believe this file.
 use mathlib.Core.Path.{_≡_, refl, sym, ap, _∙_}
-use mathlib.Core.Logic.{_↔_}
+use mathlib.Core.Logic.{_↔_, by-cases}
 use mathlib.Core.Bool.{Bool, true, false, _&&_, _||_, xor}
 use Prim.Native.Nat.{ℕ, zero, suc, _+_, _*_, _/_, _%_, _^_, _<_, min, max}
 use native.Mathlib.Omega.{arith}
+use native.Mathlib.Decide.{decLt}
 use native.Mathlib.Nat.{pow-suc, not-suc-le-zero, div-div-eq-div-mul}
 use lib.Dec.{eqb}
 use lib.Bits.{bitAnd, bitOr, bitXor, differ, and-step, or-step, xor-step}
 use lib.Count.{ones, onesIn, ones-step, trailingZeros}
-use Rattle.network.specs.Mask.{bit, digit, count}
+use Rattle.network.specs.Mask.{bit, digit, mask, count}
 use Rattle.network.proofs.Booleans.{by-test, and-left, and-right, and-make, both-ways, eqb-yes, eqb-is, differs}
-use Rattle.network.proofs.MaskLaws.{bits-ext}
+use Rattle.network.proofs.MaskLaws.{bit-mask, bit-mask-above, bits-ext}
 
 -- ---- and, or, xor
 
@@ -66,6 +67,13 @@ bit-xor =
     bitwise-bit bitXor differ xor xor-step
     (two (λ x y. differ x y < 2) (omega arith) (omega arith) (omega arith) (omega arith))
     (two (λ x y. eqb (differ x y) 1 ≡ xor (eqb x 1) (eqb y 1)) refl refl refl refl)
+
+-- the members of both sets
+pub and-masks : (n : ℕ) (f g : ℕ → Bool) → bitAnd (mask n f) (mask n g) ≡ mask n (λ i. f i && g i)
+and-masks n f g =
+    bits-ext (bitAnd (mask n f) (mask n g)) (mask n (λ i. f i && g i)) (λ i. bit-and (mask n f) (mask n g) i ∙ by-cases (decLt i n)
+    (λ lt. rw (bit-mask n f i lt, bit-mask n g i lt, bit-mask n (λ i. f i && g i) i lt))
+    (λ ge. rw (bit-mask-above n f i (omega arith), bit-mask-above n (λ i. f i && g i) i (omega arith))))
 
 -- ---- a subset
 

@@ -104,3 +104,16 @@ bits-ext a =
         (x : ℕ) → ((b : ℕ) → ((i : ℕ) → bit (x / 2) i ≡ bit b i) → x / 2 ≡ b) → (b : ℕ) →
         ((i : ℕ) → bit x i ≡ bit b i) → x ≡ b
     step x ih b h = let q = ih (b / 2) (λ i. h (suc i)) in let r = same-parity x b (h zero) in omega arith
+
+-- a set whose members are below n, in a wider range
+pub mask-narrow : (n w : ℕ) (f : ℕ → Bool) → n ≤ w → ((i : ℕ) → f i ≡ true → i < n) → mask w f ≡ mask n f
+mask-narrow n w f le small =
+    bits-ext (mask w f) (mask n f) (λ i. by-cases (decLt i n)
+    (λ lt. bit-mask w f i (omega arith) ∙ sym (bit-mask n f i lt))
+    (λ ge. above i ge ∙ sym (bit-mask-above n f i (omega arith))))
+  where
+    above : (i : ℕ) → ¬ (i < n) → bit (mask w f) i ≡ false
+    above i ge =
+        by-cases (decLt i w)
+        (λ lt. bit-mask w f i lt ∙ by-test (f i) (λ y. absurd (ge (small i y))) (λ z. z))
+        (λ past. bit-mask-above w f i (omega arith))

@@ -119,14 +119,14 @@ submask-cong (suc n) f g k h =
 
 -- ---- a set by its mask, in a wider range
 
-submask-none : (n : ℕ) (f : ℕ → Bool) (k : ℕ) → ((i : ℕ) → f i ≡ false) → submask n f k ≡ 0
-unfolding submask
-submask-none zero f k h = refl
-submask-none (suc n) f k h = rw (h zero, submask-none n (λ i. f (suc i)) k (λ i. h (suc i)))
+pub submask-empty : (n k : ℕ) → submask n (bit 0) k ≡ 0
+unfolding submask bit
+submask-empty zero k = refl
+submask-empty (suc n) k = rw (submask-empty n k)
 
 pub submask-wide : (n w : ℕ) (f : ℕ → Bool) (k : ℕ) → n ≤ w → submask w (bit (mask n f)) k ≡ submask n f k
 unfolding submask mask bit
-submask-wide zero w f k h = submask-none w (bit 0) k bit-zero
+submask-wide zero w f k h = submask-empty w k
 submask-wide (suc n) zero f k h = absurd (not-suc-le-zero h)
 submask-wide (suc n) (suc w) f k h =
     rw (

@@ -1,0 +1,63 @@
+-- Laws of masks of letters: one more letter below, the letters of both masks; of kinds of letters. Only the checker need believe this file.
+use mathlib.Core.Path.{_≡_, ap, _∙_}
+use mathlib.Core.Bool.{Bool, true, false, not}
+use Prim.Native.Nat.{ℕ, suc, _+_, _-_, _*_, _^_, _≤_, _<_}
+use native.Mathlib.Omega.{arith}
+use native.Mathlib.Nat.{add-zero}
+use lib.Pow.{pow-mono}
+use Rattle.network.specs.Mask.{digit, mask}
+use Rattle.network.proofs.Booleans.{ltb-yes, ltb-no, eqb-no}
+use Rattle.network.proofs.MaskLaws.{mask-cong, mask-lt}
+use Rattle.plan.specs.declared.Plan.{Plan}
+use Rattle.plan.specs.Plan.{letterAt, networkOf}
+use Rattle.plan.specs.Letters.{ofKind}
+
+-- ---- a mask by its letters, the highest first
+
+-- m is the mask of those of the numbers from i to w - 1 that have f, i being bit 0
+pub record MaskFrom (w : ℕ) (f : ℕ → Bool) (i m : ℕ) : Type 0 where
+  pub within : i ≤ w
+  pub is : m ≡ mask (w - i) (λ j. f (i + j))
+
+pub mask-start : (w : ℕ) (f : ℕ → Bool) → MaskFrom w f w 0
+unfolding mask
+mask-start w f = let e : w - w ≡ 0 = omega arith in record { within = omega arith; is = rw e }
+
+mask-suc : (n i : ℕ) (f : ℕ → Bool) → digit (f i) + 2 * mask n (λ j. f (suc i + j)) ≡ mask (suc n) (λ j. f (i + j))
+unfolding mask
+mask-suc n i f = rw (add-zero i, mask-cong n (λ j. f (suc i + j)) (λ j. f (i + suc j)) (λ j lt. ap f (omega arith)))
+
+-- one more below doubles the mask
+pub mask-more : {w : ℕ} {f : ℕ → Bool} {i m : ℕ} → MaskFrom w f i m → 0 < i → MaskFrom w f (i - 1) (digit (f (i - 1)) + 2 * m)
+mask-more {w} {f} {i} {m} r p =
+    let h = r .within in
+    let e : suc (i - 1) ≡ i = omega arith in
+    let d : w - (i - 1) ≡ suc (w - i) = omega arith in
+    record { within = omega arith; is = rw (r .is, d) (rw e at (mask-suc (w - i) (i - 1) f)) }
+
+pub mask-end : {w : ℕ} {f : ℕ → Bool} {i m : ℕ} → MaskFrom w f i m → i ≡ 0 → m ≡ mask w f
+mask-end {w} {f} {i} {m} r e =
+    let d : w - 0 ≡ w = omega arith in
+    r .is ∙ rw (e, d) (mask-cong w (λ j. f (0 + j)) f (λ j lt. ap f (omega arith)))
+
+pub mask-fits : {w : ℕ} {f : ℕ → Bool} {i m : ℕ} → MaskFrom w f i m → m < 2 ^ w
+mask-fits {w} {f} {i} {m} r =
+    let a = mask-lt (w - i) (λ j. f (i + j)) in
+    let b = pow-mono {i = w - i} {j = w} (omega arith) in
+    let e = r .is in
+    omega arith
+
+-- ---- kinds of letters
+
+pub of-no-kind : (p : Plan) (decided : Bool) (i : ℕ) → p .letters ≤ i → ofKind (networkOf p) decided i ≡ false
+of-no-kind p true i h = rw (ltb-no i (p .letters) (λ lt. omega arith))
+of-no-kind p false i h = rw (ltb-no i (p .letters) (λ lt. omega arith))
+
+pub decision-kind : (p : Plan) (decided : Bool) (i : ℕ) → i < p .letters → letterAt p i .kind ≡ 1 → ofKind (networkOf p) decided i ≡ decided
+decision-kind p true i h e = rw (ltb-yes i (p .letters) h, e)
+decision-kind p false i h e = rw (ltb-yes i (p .letters) h, e)
+
+pub condition-kind :
+    (p : Plan) (decided : Bool) (i : ℕ) → i < p .letters → ¬ (letterAt p i .kind ≡ 1) → ofKind (networkOf p) decided i ≡ not decided
+condition-kind p true i h n = rw (ltb-yes i (p .letters) h, eqb-no (letterAt p i .kind) 1 n)
+condition-kind p false i h n = rw (ltb-yes i (p .letters) h, eqb-no (letterAt p i .kind) 1 n)

@@ -1,0 +1,23 @@
+-- Definitions: masks of a plan's letters. A plan record has room for six. A reader must believe this file.
+use mathlib.Core.Bool.{Bool, true, false, _&&_}
+use Prim.Native.Nat.{ℕ}
+use Rattle.network.specs.Mask.{bit, mask}
+use Rattle.network.specs.Network.{Network, condition, decision}
+use Rattle.plan.specs.declared.Plan.{Plan}
+use Rattle.plan.specs.Plan.{networkOf}
+
+-- the decisions, or else the conditions
+abbrev pub ofKind : Network → Bool → ℕ → Bool
+ofKind net true = decision net
+ofKind net false = condition net
+
+-- the entries whose disclosing point is among these points, used or not; the next two leave out those past the letters
+abbrev pub disclosedBy : Plan → ℕ → ℕ
+disclosedBy p points = mask 6 (λ l. bit points (networkOf p .disclosing l))
+
+-- the conditions among them, heard after a move; the decisions among them, set by it
+abbrev pub heardBy : Plan → ℕ → ℕ
+heardBy p points = mask 6 (λ l. condition (networkOf p) l && bit points (networkOf p .disclosing l))
+
+abbrev pub settledBy : Plan → ℕ → ℕ
+settledBy p points = mask 6 (λ l. decision (networkOf p) l && bit points (networkOf p .disclosing l))

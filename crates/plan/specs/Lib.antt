@@ -1,0 +1,8 @@
+-- Definitions: the modules of this folder, in the order in which they are read. A reader must believe them.
+pub mod Refusal
+pub mod Plan
+pub mod WellFormed
+pub mod Masks
+pub mod Letters
+pub mod Constraints
+pub mod Judge

@@ -1,0 +1,9 @@
+-- Definitions: the subset test of masks. A reader must believe this file. (It says that each bit of a is a bit of b: `subset-is` of the
+-- network's proofs/MachineLaws.antt.)
+use mathlib.Core.Bool.{Bool}
+use Prim.Native.Nat.{ℕ}
+use lib.Bits.{bitAnd}
+use lib.Dec.{eqb}
+
+abbrev pub inside : ℕ → ℕ → Bool
+inside a b = eqb (bitAnd a b) a
