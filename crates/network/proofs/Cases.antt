@@ -1,6 +1,7 @@
 -- Cases: small networks of document 01, computed, and what the definitions say of them. Only the checker need believe this file; a reader
 -- may like to.
 use mathlib.Core.Path.{_≡_, refl}
+use mathlib.Core.Logic.{inl, inr, ⊎-elim}
 use mathlib.Core.List.{List, [], _∷_}
 use mathlib.Core.Bool.{Bool, true, false, cond}
 use Prim.Native.Nat.{ℕ, zero, suc, _%_}
@@ -11,9 +12,11 @@ use lib.IntN.{ℤ, pos, negsuc}
 use Rattle.network.specs.Mask.{bit, mask, count, allBelow, anyBelow, firstBelow, joinBelow, sumBelow, submask}
 use Rattle.network.specs.Network.{Constraint, Network, condition, holds, projected, atMost, feasible, keeps}
 use Rattle.network.specs.Strategy.{ConditionScenario, Strategy, Viable, InHistory, SameHistory, Dynamic}
-use Rattle.network.specs.Game.{start, Move, after}
+use Rattle.network.specs.Game.{start, Move, Legal, after}
 use Rattle.network.specs.Tree.{preorder, nodes}
 use Rattle.network.specs.Search.{over, winsBy, winsWith, winsIn, winnable, firstMove, firstTreeFrom, firstTree, hopeless}
+use Rattle.network.specs.FirstMoves.{Before}
+use Rattle.network.specs.Crew.{Step, Some, Hears}
 use Rattle.network.specs.Policy.{Policy, observe, heardBefore}
 use Rattle.network.proofs.Booleans.{by-test, clash}
 use Rattle.network.proofs.MaskLaws.{bit-zero}
@@ -161,3 +164,39 @@ heard-by-slot = (refl, refl, refl, refl, refl)
 pub last-slot : Viable (network 0 1 0 the-world []) (record { time = λ cs x. 0; choice = λ cs. 0 })
 unfolding projected feasible keeps
 last-slot = record { within = λ cs k x h. omega arith; keeping = λ cs k. refl }
+
+-- ---- moves that are not legal: no point, past the horizon, a point again, the slot again, a choice not disclosed, one for a condition
+
+pub illegal :
+    (¬ Legal k1 (start k1) (move 0 0 0)) × (¬ Legal k1 (start k1) (move 4 1 0))
+    × (¬ Legal k1 (after k1 (start k1) (move 0 1 0) 0) (move 1 1 0)) × (¬ Legal k4 (after k4 (start k4) (move 1 1 0) 0) (move 1 2 0))
+    × (¬ Legal k9 (start k9) (move 0 1 2)) × (¬ Legal k9 (start k9) (move 0 1 1))
+unfolding bit mask start after
+illegal = (
+  λ lg. clash (lg .some .2) (bit-zero (lg .some .0)),
+  λ lg. let w = lg .within in omega arith,
+  λ lg. clash (lg .not-yet 0 refl) refl,
+  λ lg. let w = lg .later in omega arith,
+  λ lg. clash (lg .disclosed 1 refl) refl,
+  λ lg. clash (lg .disclosed 0 refl) refl,
+)
+
+-- ---- the order of moves: by slot, then points, then choices
+
+pub ordered : Before (move 0 3 1) (move 1 1 0) × Before (move 1 1 1) (move 1 2 0) × Before (move 1 2 0) (move 1 2 1)
+ordered = (inl (omega arith), inr (refl, inl (omega arith)), inr (refl, inr (refl, omega arith)))
+
+-- ---- crews: what is reported in slot 0 is heard from it in slot 1, and not before
+
+abbrev followed : List Step
+followed = record { instruction = move 0 1 0; report = 1 } ∷ (record { instruction = move 1 2 0; report = 0 } ∷ [])
+
+pub heard-later : Some (Hears k4 1 0 true) followed × (¬ Some (Hears k4 0 0 true) followed)
+unfolding bit Some
+heard-later = (
+  inl (omega arith, refl, refl),
+  λ f. ⊎-elim
+      (λ (h : Hears k4 0 0 true (record { instruction = move 0 1 0; report = 1 })). let b = h .0 in omega arith)
+      (λ g. ⊎-elim (λ (h : Hears k4 0 0 true (record { instruction = move 1 2 0; report = 0 })). let b = h .0 in omega arith) (λ n. n) g)
+      f,
+)

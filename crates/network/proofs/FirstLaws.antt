@@ -8,7 +8,7 @@ use native.Mathlib.Omega.{arith}
 use native.Mathlib.Decide.{decLt}
 use Rattle.network.specs.Mask.{bit, count}
 use Rattle.network.specs.Network.{Network, IsNetwork}
-use Rattle.network.specs.Strategy.{Consistent}
+use Rattle.network.specs.Strategy.{DynamicallyConsistent}
 use Rattle.network.specs.Game.{State, start, Move, Legal, after, Kept}
 use Rattle.network.specs.Tree.{Tree, done, node, Sound}
 use Rattle.network.specs.FirstMoves.{CanBeWon, Winning, Before, FirstMoves, SameTree}
@@ -135,17 +135,17 @@ module _ (net : Network) where
       (not-false (winnable net (net .points) (start net)) e)
 
   module _ (wf : IsNetwork net) where
-    pub consistent-exactly : Consistent net ↔ CanBeWon net (start net)
+    pub consistent-exactly : DynamicallyConsistent net ↔ CanBeWon net (start net)
     consistent-exactly = (consistent→won net wf, λ w. wins→consistent net wf (w .tree) (w .sound))
 
-    pub hopeless-exactly : (hopeless net ≡ true) ↔ (¬ Consistent net)
+    pub hopeless-exactly : (hopeless net ≡ true) ↔ (¬ DynamicallyConsistent net)
     hopeless-exactly = (
       λ t c. clash t (won-exactly .1 (consistent-exactly .0 c)),
       λ n. by-test (hopeless net) (λ y. y) (λ z. absurd (n (consistent-exactly .1 (won-exactly .0 z)))),
     )
 
     -- it is decided, so `¬` loses nothing
-    pub decided : Dec (Consistent net)
+    pub decided : Dec (DynamicallyConsistent net)
     decided =
         by-test (hopeless net)
         (λ y. no (hopeless-exactly .0 y))

@@ -10,7 +10,7 @@ use native.Mathlib.Decide.{decLt}
 use lib.Dec.{eqb}
 use Rattle.network.specs.Mask.{bit, mask, anyBelow}
 use Rattle.network.specs.Network.{Network, condition, decision, IsNetwork}
-use Rattle.network.specs.Strategy.{ConditionScenario, Strategy, Viable, InHistory, SameHistory, Dynamic, Consistent}
+use Rattle.network.specs.Strategy.{ConditionScenario, Strategy, Viable, InHistory, SameHistory, Dynamic, DynamicallyConsistent}
 use Rattle.network.specs.Game.{State, start, Move, settles, Legal, after, Over, Kept}
 use Rattle.network.specs.Tree.{Tree, done, node, Sound}
 use Rattle.network.specs.FirstMoves.{CanBeWon}
@@ -211,7 +211,7 @@ module _ (net : Network) (wf : IsNetwork net) (σ : Strategy) (dy : Dynamic net 
   }
 
 -- from any dynamic and viable strategy the game is won
-pub consistent→won : (net : Network) → IsNetwork net → Consistent net → CanBeWon net (start net)
+pub consistent→won : (net : Network) → IsNetwork net → DynamicallyConsistent net → CanBeWon net (start net)
 consistent→won net wf k =
     let r = follow net wf (k .strategy) (k .dynamic) (k .viable) (suc (net .horizon)) 0 (omega arith) (start net)
     (begin net wf (k .strategy) (k .dynamic)) in

@@ -5,7 +5,7 @@ use mathlib.Core.List.{List}
 use mathlib.Core.Bool.{true, false}
 use Prim.Native.Nat.{ℕ, suc, _*_, _≤_, _<_}
 use Rattle.network.specs.Network.{Network, IsNetwork}
-use Rattle.network.specs.Strategy.{Viable, Dynamic, Consistent}
+use Rattle.network.specs.Strategy.{Viable, Dynamic, DynamicallyConsistent}
 use Rattle.network.specs.Game.{State, start, Move, Legal, outcomes, after}
 use Rattle.network.specs.Tree.{Tree, Sound, Shaped, Wins, strategyOf, nodes, room}
 use Rattle.network.specs.FirstMoves.{CanBeWon, FirstMoves, SameTree}
@@ -28,12 +28,12 @@ module _ (net : Network) (wf : IsNetwork net) where
   tree-viable-exactly = tree.viable-exactly net wf
 
   -- Theorem 2. A dynamic and viable strategy exists exactly where the agent wins the game from the start.
-  pub consistent-exactly : Consistent net ↔ CanBeWon net (start net)
+  pub consistent-exactly : DynamicallyConsistent net ↔ CanBeWon net (start net)
   consistent-exactly = first.consistent-exactly net wf
 
   -- Theorem 3. Hopeless, as computed, is exactly that no dynamic and viable strategy exists. Otherwise the computed tree wins, is a tree
   -- of first moves (so that no earlier move at any of its nodes can be won), and there is no other.
-  pub hopeless-exactly : (hopeless net ≡ true) ↔ (¬ Consistent net)
+  pub hopeless-exactly : (hopeless net ≡ true) ↔ (¬ DynamicallyConsistent net)
   hopeless-exactly = first.hopeless-exactly net wf
 
   pub first-tree-first : hopeless net ≡ false → FirstMoves net (firstTree net) (start net)

@@ -6,7 +6,7 @@ use mathlib.Core.Bool.{true, false}
 use Prim.Native.Nat.{ℕ, _<_}
 use Rattle.network.specs.Mask.{bit}
 use Rattle.network.specs.Network.{Network, condition, combined, keeps, IsNetwork}
-use Rattle.network.specs.Strategy.{ConditionScenario, Viable, SameHistory, Dynamic, Consistent}
+use Rattle.network.specs.Strategy.{ConditionScenario, Viable, SameHistory, Dynamic, DynamicallyConsistent}
 use Rattle.network.specs.Game.{State, start, Move, hears, Legal, Outcome, after, Kept}
 use Rattle.network.specs.Tree.{Tree, done, node, Sound, Shaped, Wins, outcomeOf, play, strategyOf}
 use Rattle.network.proofs.Booleans.{by-test, clash}
@@ -116,7 +116,7 @@ module _ (net : Network) (wf : IsNetwork net) where
     λ w. viable-iff (λ s. Unit {0}) t sd .1 (λ cs c. ends net wf (Kept net) t (start net) cs w),
   )
 
-  pub wins→consistent : (t : Tree) → Wins net t → Consistent net
+  pub wins→consistent : (t : Tree) → Wins net t → DynamicallyConsistent net
   wins→consistent t w =
       record {
         strategy = strategyOf net t;

@@ -43,7 +43,7 @@ pub record Dynamic (net : Network) (σ : Strategy) : Type 0 where
       SameHistory net σ (σ .time cs (net .disclosing l)) cs cs′ → bit (σ .choice cs) l ≡ bit (σ .choice cs′) l
 
 -- Definition 9. Some strategy is dynamic and viable.
-pub record Consistent (net : Network) : Type 0 where
+pub record DynamicallyConsistent (net : Network) : Type 0 where
   pub strategy : Strategy
   pub viable : Viable net strategy
   pub dynamic : Dynamic net strategy
