@@ -125,14 +125,18 @@ pub foreseeing-viable : Viable k6 foreseeing
 unfolding bit allBelow holds projected atMost feasible keeps
 foreseeing-viable =
     record {
-      within = λ cs k x h. by-test (eqb x 0) (λ y. rw y (omega arith)) (λ z. rw z (by-test (eqb (cs % 2) 1) (λ y. rw y (omega arith)) (λ n. rw n (omega arith))));
+      within = λ cs k x h.
+          by-test (eqb x 0)
+          (λ y. rw y (omega arith))
+          (λ z. rw z (by-test (eqb (cs % 2) 1) (λ y. rw y (omega arith)) (λ n. rw n (omega arith))));
       keeping = λ cs k. by-test (eqb (cs % 2) 1) (λ y. rw y (rw y)) (λ z. rw z (rw z));
     }
 
 pub foreseeing-not-dynamic : ¬ Dynamic k6 foreseeing
 unfolding bit
 foreseeing-not-dynamic d =
-    let same : SameHistory k6 foreseeing 0 1 0 = λ l v. (λ h. absurd (not-suc-le-zero (h .before)), λ h. absurd (not-suc-le-zero (h .before))) in
+    let same : SameHistory k6 foreseeing 0 1 0
+    = λ l v. (λ h. absurd (not-suc-le-zero (h .before)), λ h. absurd (not-suc-le-zero (h .before))) in
     let e : _≡_ {A = ℕ} 2 0 = d .times 1 0 one none 1 (omega arith) same in
     omega arith
   where

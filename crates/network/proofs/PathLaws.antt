@@ -33,6 +33,17 @@ module _ (net : Network) (wf : IsNetwork net) where
       (λ y. rw (h l (heard-condition net m l y) (heard-point net m l y)))
       (λ n. rw n))
 
+  -- cs and cs′ agree on each condition that cs hears, in what is left of the tree, before the slot of x
+  abbrev pub AgreeBefore : Tree → State → ℕ → ℕ → ℕ → Type 0
+  AgreeBefore t s cs cs′ x =
+      (l : ℕ) → condition net l ≡ true → bit (s .left) (net .disclosing l) ≡ true →
+      play net t s cs .slots (net .disclosing l) < play net t s cs .slots x → bit cs l ≡ bit cs′ l
+
+  -- two ends of paths have x in the same slot, and the same values of the decisions that x discloses
+  pub record SameAt (f f′ : State) (x : ℕ) : Type 0 where
+    pub slot : f′ .slots x ≡ f .slots x
+    pub choice : (l : ℕ) → decision net l ≡ true → net .disclosing l ≡ x → bit (f .decided) l ≡ bit (f′ .decided) l
+
   module _ (End : State → Type 0) where
     -- a point that is not left has its slot already
     pub slot-stays :
@@ -53,7 +64,8 @@ module _ (net : Network) (wf : IsNetwork net) where
     decided-stays (node m next) s cs l sd d e =
         let o = outcomeOf net m cs in
         let f : bit (m .points) (net .disclosing l) ≡ false = not-again net s m (sd .0) (net .disclosing l) e in
-        decided-stays (next o) (after net s m o) cs l (sd .1 o (outcome-is m cs)) d (stays-performed net s m o (net .disclosing l) (decision-point net wf l d) e)
+        let gone = stays-performed net s m o (net .disclosing l) (decision-point net wf l d) e in
+        decided-stays (next o) (after net s m o) cs l (sd .1 o (outcome-is m cs)) d gone
         ∙ decided-old net s m o l d f
 
     -- a point of the first move has that move's slot, and its decision the value chosen there
@@ -73,7 +85,8 @@ module _ (net : Network) (wf : IsNetwork net) where
     unfolding Sound play
     decided-first m next s cs l sd d y =
         let o = outcomeOf net m cs in
-        decided-stays (next o) (after net s m o) cs l (sd .1 o (outcome-is m cs)) d (performed net s m o (net .disclosing l) (decision-point net wf l d) y)
+        let gone = performed net s m o (net .disclosing l) (decision-point net wf l d) y in
+        decided-stays (next o) (after net s m o) cs l (sd .1 o (outcome-is m cs)) d gone
         ∙ decided-new net s m o l d y
 
     -- a point that is left gets a slot that is open, within the horizon
@@ -107,27 +120,30 @@ module _ (net : Network) (wf : IsNetwork net) where
         (λ n. heard-old net s m o k d n ∙ so k d (by-test (bit (s .left) (net .disclosing k))
         (λ z. clash (stays-left net s m o (net .disclosing k) (condition-point net wf k d) z n) e) (λ z. z)))) l c
 
-    -- two scenarios that agree on what is heard before the slot of X come to the same slot and choices of X
-    pub same : (t : Tree) (s : State) (cs cs′ X : ℕ) → Sound net End t s → X < net .points → bit (s .left) X ≡ true
-        → ((l : ℕ) → condition net l ≡ true → bit (s .left) (net .disclosing l) ≡ true → play net t s cs .slots (net .disclosing l) < play net t s cs .slots X → bit cs l ≡ bit cs′ l)
-        → (play net t s cs′ .slots X ≡ play net t s cs .slots X)
-        × ((l : ℕ) → decision net l ≡ true → net .disclosing l ≡ X → bit (play net t s cs .decided) l ≡ bit (play net t s cs′ .decided) l)
+    -- two scenarios that agree on what is heard before the slot of x come to the same slot and choices of x
+    pub same :
+        (t : Tree) (s : State) (cs cs′ x : ℕ) → Sound net End t s → x < net .points → bit (s .left) x ≡ true →
+        AgreeBefore t s cs cs′ x → SameAt (play net t s cs) (play net t s cs′) x
     unfolding Sound play
-    same done s cs cs′ X sd h e agree = clash e (sd .0 X h)
-    same (node m next) s cs cs′ X sd h e agree =
+    same done s cs cs′ x sd h e agree = clash e (sd .0 x h)
+    same (node m next) s cs cs′ x sd h e agree =
         let o = outcomeOf net m cs in
-        by-test (bit (m .points) X)
-        (λ y. (
-          slot-first m next s cs′ X sd h y ∙ sym (slot-first m next s cs X sd h y),
-          λ l d x. let z : bit (m .points) (net .disclosing l) ≡ true = rw x y in
-              decided-first m next s cs l sd d z ∙ sym (decided-first m next s cs′ l sd d z),
-        ))
-        (λ n. let lower = slot-open (next o) (after net s m o) cs X (sd .1 o (outcome-is m cs)) h (stays-left net s m o X h e n) in
+        by-test (bit (m .points) x)
+        (λ y. record {
+          slot = slot-first m next s cs′ x sd h y ∙ sym (slot-first m next s cs x sd h y);
+          choice = λ l d q.
+              let z : bit (m .points) (net .disclosing l) ≡ true = rw q y in
+              decided-first m next s cs l sd d z ∙ sym (decided-first m next s cs′ l sd d z);
+        })
+        (λ n.
+        let sdo = sd .1 o (outcome-is m cs) in
+        let left = stays-left net s m o x h e n in
+        let lower = slot-open (next o) (after net s m o) cs x sdo h left in
         let q = open-is net s m o in
-        let oe : outcomeOf net m cs ≡ outcomeOf net m cs′ = outcome-cong m cs cs′ (λ l c y.
+        let oe : o ≡ outcomeOf net m cs′ = outcome-cong m cs cs′ (λ l c y.
         let f = slot-first m next s cs (net .disclosing l) sd (condition-point net wf l c) y in
         agree l c (sd .0 .not-yet (net .disclosing l) y) (omega arith)) in
-        subst (λ (x : ℕ). (play net (next x) (after net s m x) cs′ .slots X ≡ play net (next o) (after net s m o) cs .slots X)
-        × ((l : ℕ) → decision net l ≡ true → net .disclosing l ≡ X → bit (play net (next o) (after net s m o) cs .decided) l ≡ bit (play net (next x) (after net s m x) cs′ .decided) l))
-        oe (same (next o) (after net s m o) cs cs′ X (sd .1 o (outcome-is m cs)) h (stays-left net s m o X h e n)
-        (λ l c z lt. agree l c (was-left net s m o (net .disclosing l) (condition-point net wf l c) z .0) lt)))
+        let before : AgreeBefore (next o) (after net s m o) cs cs′ x
+        = λ l c z lt. agree l c (was-left net s m o (net .disclosing l) (condition-point net wf l c) z .0) lt in
+        subst (λ (o′ : ℕ). SameAt (play net (next o) (after net s m o) cs) (play net (next o′) (after net s m o′) cs′) x) oe
+        (same (next o) (after net s m o) cs cs′ x sdo h left before))

@@ -63,7 +63,8 @@ module _ (net : Network) (wf : IsNetwork net) where
   pub room-positive : (s : State) → 0 < room net s
   unfolding room
   room-positive s =
-      omega (arith, mul-le-mul-left (2 ^ conditionsLeft net s) (one-le (pointsLeft net s - conditionsLeft net s)), pow-pos (conditionsLeft net s))
+      let c = conditionsLeft net s in
+      omega (arith, mul-le-mul-left (2 ^ c) (one-le (pointsLeft net s - c)), pow-pos c)
     where
       one-le : (d : ℕ) → 1 ≤ d + 1
       one-le d = omega arith

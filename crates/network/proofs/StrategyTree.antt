@@ -114,7 +114,9 @@ module _ (net : Network) (wf : IsNetwork net) (σ : Strategy) (dy : Dynamic net 
 
     due-time : (p : ℕ) → bit (m .points) p ≡ true → σ .time (s .heard) p ≡ e
     unfolding moveNow
-    due-time p y = eqb-is (σ .time (s .heard) p) e (and-right (bit (s .left) p) (eqb (σ .time (s .heard) p) e) (in-mask (net .points) _ p y .1))
+    due-time p y =
+        eqb-is (σ .time (s .heard) p) e
+        (and-right (bit (s .left) p) (eqb (σ .time (s .heard) p) e) (in-mask (net .points) _ p y .1))
 
     not-due : (p : ℕ) → p < net .points → bit (s .left) p ≡ true → bit (m .points) p ≡ false → e < σ .time (s .heard) p
     unfolding moveNow
@@ -147,7 +149,8 @@ module _ (net : Network) (wf : IsNetwork net) (σ : Strategy) (dy : Dynamic net 
       -- what was heard before slot e stays
       agree : (l : ℕ) → condition net l ≡ true → σ .time c (net .disclosing l) < e → bit c l ≡ bit c′ l
       agree l d lt =
-          sym (heard-old net s m o l d (by-test (bit (m .points) (net .disclosing l)) (λ y. let q = due-time (net .disclosing l) y in absurd (omega arith)) (λ n. n)))
+          let x = net .disclosing l in
+          sym (heard-old net s m o l d (by-test (bit (m .points) x) (λ y. let q = due-time x y in absurd (omega arith)) (λ n. n)))
 
       history : (u : ℕ) → u ≤ e → SameHistory net σ u c c′
       history u h = same-history u c c′ (fo .scenario) scenario′ (λ l d lt. agree l d (omega arith))
@@ -165,14 +168,29 @@ module _ (net : Network) (wf : IsNetwork net) (σ : Strategy) (dy : Dynamic net 
         scenario = scenario′;
         clock = let q = open-is net s m o in let r = slot-now in omega arith;
         past = λ p h b. by-test (bit (m .points) p)
-            (λ y. let q = due-time p y in let r = settled p h (omega arith) in (r ∙ q ∙ sym slot-now ∙ sym (slot-new net s m o p y), omega arith))
-            (λ n. let g = fo .past p h (was-performed net s m o p h b n) in let g1 = g .1 in let r = settled p h (omega arith) in (r ∙ g .0 ∙ sym (slot-old net s m o p n), omega arith));
-        future = λ p h b. let w = was-left net s m o p h b in let nd = not-due p h (w .0) (w .1) in
-            by-cases (decLt e (σ .time c′ p)) (λ lt. lt)
-            (λ ge. let r = dy .times c′ c scenario′ (fo .scenario) p h (swap (history (σ .time c′ p) (omega arith))) in absurd (omega arith));
-        decided = λ l d b. let h = decision-point net wf l d in by-test (bit (m .points) (net .disclosing l))
-            (λ y. let q = due-time (net .disclosing l) y in decided-new net s m o l d y ∙ choice-now l d y ∙ settled-choice l d (omega arith))
-            (λ n. let gone = was-performed net s m o (net .disclosing l) h b n in let g = fo .past (net .disclosing l) h gone .1 in
+            (λ y. let q = due-time p y in
+            let r = settled p h (omega arith) in
+            (r ∙ q ∙ sym slot-now ∙ sym (slot-new net s m o p y), omega arith))
+            (λ n. let g = fo .past p h (was-performed net s m o p h b n) in
+            let g1 = g .1 in
+            let r = settled p h (omega arith) in
+            (r ∙ g .0 ∙ sym (slot-old net s m o p n), omega arith));
+        future = λ p h b.
+            let w = was-left net s m o p h b in
+            let nd = not-due p h (w .0) (w .1) in
+            by-cases (decLt e (σ .time c′ p))
+            (λ lt. lt)
+            (λ ge. let q = swap (history (σ .time c′ p) (omega arith)) in
+            let r = dy .times c′ c scenario′ (fo .scenario) p h q in
+            absurd (omega arith));
+        decided = λ l d b.
+            let x = net .disclosing l in
+            let h = decision-point net wf l d in
+            by-test (bit (m .points) x)
+            (λ y. let q = due-time x y in
+            decided-new net s m o l d y ∙ choice-now l d y ∙ settled-choice l d (omega arith))
+            (λ n. let gone = was-performed net s m o x h b n in
+            let g = fo .past x h gone .1 in
             decided-old net s m o l d n ∙ fo .decided l d gone ∙ settled-choice l d (omega arith));
       }
 

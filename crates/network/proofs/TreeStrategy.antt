@@ -13,34 +13,41 @@ use Rattle.network.proofs.Booleans.{by-test, clash}
 use Rattle.network.proofs.MaskLaws.{bit-zero, bits-ext, in-mask}
 use Rattle.network.proofs.NetworkLaws.{combined-cong, keeps-cong, condition-point, decision-point}
 use Rattle.network.proofs.GameLaws.{heard-condition, heard-point, outcome-outside, all-left, performed, stays-performed, heard-new, heard-old, not-again}
-use Rattle.network.proofs.PathLaws.{outcome-is, outcome-at, slot-open, ends, heard-is, same}
+use Rattle.network.proofs.PathLaws.{AgreeBefore, outcome-is, outcome-at, slot-open, ends, heard-is, same}
 
 module _ (net : Network) (wf : IsNetwork net) where
   module _ (End : State → Type 0) (t : Tree) (sd : Sound net End t (start net)) where
     -- a sound tree describes a dynamic strategy
     pub dynamic : Dynamic net (strategyOf net t)
     unfolding strategyOf
-    dynamic = record {
-      times = λ cs cs′ k k′ X h sh. same net wf End t (start net) cs cs′ X sd h (all-left net X h) (agree cs cs′ X sh) .0;
-      choices = λ cs cs′ k k′ l d sh.
-          let h = decision-point net wf l d in
-          same net wf End t (start net) cs cs′ (net .disclosing l) sd h (all-left net (net .disclosing l) h) (agree cs cs′ (net .disclosing l) sh) .1 l d refl;
-    }
+    dynamic =
+        record {
+          times = λ cs cs′ k k′ x h sh. same net wf End t (start net) cs cs′ x sd h (all-left net x h) (agree cs cs′ x sh) .slot;
+          choices = λ cs cs′ k k′ l d sh.
+              let x = net .disclosing l in
+              let h = decision-point net wf l d in
+              same net wf End t (start net) cs cs′ x sd h (all-left net x h) (agree cs cs′ x sh) .choice l d refl;
+        }
       where
-        agree : (cs cs′ X : ℕ) → SameHistory net (strategyOf net t) (strategyOf net t .time cs X) cs cs′
-            → (l : ℕ) → condition net l ≡ true → bit (start net .left) (net .disclosing l) ≡ true
-            → play net t (start net) cs .slots (net .disclosing l) < play net t (start net) cs .slots X → bit cs l ≡ bit cs′ l
-        agree cs cs′ X sh l c z lt = sym (sh l (bit cs l) .0 (record { contingent = c; before = lt; valued = refl }) .valued)
+        agree :
+            (cs cs′ x : ℕ) → SameHistory net (strategyOf net t) (strategyOf net t .time cs x) cs cs′ →
+            AgreeBefore net wf t (start net) cs cs′ x
+        agree cs cs′ x sh l c z lt = sym (sh l (bit cs l) .0 (record { contingent = c; before = lt; valued = refl }) .valued)
 
-    -- the scenario's letters at the end of its path
-    at-end : (cs l : ℕ) → l < net .letters
-        → combined net (play net t (start net) cs .heard) (play net t (start net) cs .decided) l ≡ combined net cs (play net t (start net) cs .decided) l
-    at-end cs = combined-cong net _ _ _ _
-        (heard-is net wf End t (start net) cs sd (λ l c e. clash (all-left net (net .disclosing l) (condition-point net wf l c)) e)) (λ l d. refl)
+    -- the state at the end of the path of a scenario, and the scenario's letters there
+    abbrev final : ℕ → State
+    final cs = play net t (start net) cs
+
+    at-end : (cs l : ℕ) → l < net .letters → combined net (final cs .heard) (final cs .decided) l ≡ combined net cs (final cs .decided) l
+    at-end cs =
+        combined-cong net _ _ _ _
+        (heard-is net wf End t (start net) cs sd
+        (λ l c e. clash (all-left net (net .disclosing l) (condition-point net wf l c)) e))
+        (λ l d. refl)
 
     kept-is :
         (cs : ℕ) →
-        keeps net (play net t (start net) cs .slots) (combined net (play net t (start net) cs .heard) (play net t (start net) cs .decided))
+        keeps net (final cs .slots) (combined net (final cs .heard) (final cs .decided))
         ≡ keeps net (strategyOf net t .time cs) (combined net cs (strategyOf net t .choice cs))
     unfolding strategyOf
     kept-is cs = keeps-cong net wf _ _ _ _ (λ p h. refl) (at-end cs)

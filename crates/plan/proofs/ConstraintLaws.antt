@@ -8,7 +8,7 @@ use native.Mathlib.Decide.{decLt}
 use lib.Dec.{eqb, leb}
 use lib.Bits.{bitAnd, bitXor}
 use Rattle.network.specs.Mask.{bit, allBelow}
-use Rattle.network.specs.Network.{Scenario, Schedule, holds, atMost, projected, feasible, keeps}
+use Rattle.network.specs.Network.{Scenario, Schedule, holds, satisfies, atMost, projected, feasible, keeps}
 use Rattle.network.proofs.Booleans.{by-test, both-ways, not-false, leb-yes, leb-is, ltb-yes, ltb-no, eqb-yes, eqb-is}
 use Rattle.network.proofs.BelowLaws.{all-at, all-make, all-first}
 use Rattle.network.proofs.MaskLaws.{bit-zero, bit-above, no-bits}
@@ -54,16 +54,23 @@ at-most-neg x y b h k =
     (λ e. let q = leb-is (y + 65536) (x + b) e in leb-yes (y + suc (65535 - b)) x (omega arith))
     (λ e. let q = leb-is (y + suc (65535 - b)) x e in leb-yes (y + 65536) (x + b) (omega arith)))
 
--- ---- all constraints of a plan
+-- ---- one constraint, and all of a plan
+
+-- the label fails, or the constraint is satisfied
+pub keeps-one :
+    (ψ : Schedule) (s : Scenario) (c : Constraint) → keepsOne ψ s c ≡ (not (holds s (labelOf c)) || satisfies ψ (constraintOf c))
+unfolding keepsOne feasible projected
+keeps-one ψ s c =
+    by-test (holds s (labelOf c)) (λ y. rw y (and-true (satisfies ψ (constraintOf c)))) (λ z. rw z)
 
 kept-listed :
     (ψ : Schedule) (s : Scenario) (n : ℕ) (at : ℕ → Constraint) →
     feasible ψ (projected s (listed n (λ j. constraintOf (at j)))) ≡ allBelow n (λ j. keepsOne ψ s (at j))
-unfolding feasible projected listed allBelow keepsOne
+unfolding feasible projected listed allBelow
 kept-listed ψ s zero at = refl
 kept-listed ψ s (suc n) at =
     let r = kept-listed ψ s n (λ j. at (suc j)) in
-    rw all-first (by-test (holds s (labelOf (at zero))) (λ y. rw (y, r)) (λ z. rw (z, r)))
+    rw (all-first, keeps-one) (by-test (holds s (labelOf (at zero))) (λ y. rw (y, r)) (λ z. rw (z, r)))
 
 pub keeps-all :
     (p : Plan) (ψ : Schedule) (s : Scenario) → keeps (networkOf p) ψ s ≡ allBelow (p .constraints) (λ j. keepsOne ψ s (constraintAt p j))

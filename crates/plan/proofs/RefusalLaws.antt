@@ -12,7 +12,8 @@ use Rattle.plan.specs.Refusal.{refusalNumber, judgedNumber}
 -- the refusals in the order of their numbers
 abbrev refusals : List Refusal
 refusals =
-    refusal.PlanText ∷ refusal.Head ∷ refusal.Letters ∷ refusal.Constraints ∷ refusal.TreeText ∷ refusal.Shape ∷ refusal.Broken ∷ refusal.Mask ∷ refusal.AfterDone ∷ refusal.Buffer ∷ refusal.Hopeless ∷ []
+    refusal.PlanText ∷ refusal.Head ∷ refusal.Letters ∷ refusal.Constraints ∷ refusal.TreeText ∷ refusal.Shape ∷ refusal.Broken
+    ∷ refusal.Mask ∷ refusal.AfterDone ∷ refusal.Buffer ∷ refusal.Hopeless ∷ []
 
 abbrev judgedBy : ℕ → Judged
 judgedBy zero = judged.Fine

@@ -2,7 +2,7 @@
 use mathlib.Core.Path.{sym}
 use borrow.Author.Needs.{needs}
 use Rattle.network.proofs.Booleans.{not-false}
-use Rattle.plan.specs.Constraints.{keepsOne}
+use Rattle.plan.proofs.ConstraintLaws.{keeps-one}
 use Rattle.plan.proofs.constraints.constraint_kept.Statement.{statement}
 use Rattle.plan.proofs.constraints.constraint_kept.Tie as tie
 
@@ -10,8 +10,7 @@ label-holds-requires : tie.Need-label-holds-requires
 label-holds-requires c κs = search needs
 
 returns : tie.Need-returns
-unfolding keepsOne
-returns c = rw (← c .before .label-holds .ensures) (sym (rw (c .if1 .taken)))
+returns c = rw (keeps-one, ← c .before .label-holds .ensures) (sym (rw (c .if1 .taken)))
 
 slot-of-requires : tie.Need-slot-of-requires
 slot-of-requires c κs = search needs
@@ -23,10 +22,9 @@ at-most-requires : tie.Need-at-most-requires
 at-most-requires c κs = search needs
 
 returns-2 : tie.Need-returns-2
-unfolding keepsOne
 returns-2 c =
     let held = not-false (c .before .before .before .before .label-holds .result) (c .before .before .before .if1 .left) in
-    rw (← c .before .before .before .before .label-holds .ensures, held)
+    rw (keeps-one, ← c .before .before .before .before .label-holds .ensures, held)
     (rw (← c .before .before .slot-of .ensures, ← c .before .slot-of2 .ensures) (c .at-most .ensures))
 
 pub constraint-kept-spec : {M : Type 1} → statement M
