@@ -61,7 +61,7 @@ projection net s = projected s (net .constraints)
 abbrev pub Schedule : Type 0
 Schedule = ℕ → ℕ
 
--- y − x ≤ d
+-- y − x ≤ d, where `pos d` is d and `negsuc d` is −(d + 1)
 unfoldable pub atMost : ℕ → ℕ → ℤ → Bool
 atMost x y (pos d) = leb y (x + d)
 atMost x y (negsuc d) = leb (y + suc d) x
