@@ -204,3 +204,31 @@ heard-later = (
       (λ g. ⊎-elim (λ (h : Hears k4 0 0 true (record { instruction = move 1 2 0; report = 0 })). let b = h .0 in omega arith) (λ n. n) g)
       f,
 )
+
+-- ---- a choice that uses the outcome of its own slot: a strategy for k10 that copies it is viable and not dynamic
+
+abbrev copying : Strategy
+copying = record { time = λ cs x. 0; choice = λ cs. cond (bit cs 0) 2 0 }
+
+pub copying-viable : Viable k10 copying
+unfolding bit allBelow holds projected atMost feasible keeps
+copying-viable =
+    record {
+      within = λ cs k x h. omega arith;
+      keeping = λ cs k. by-test (eqb (cs % 2) 1) (λ y. rw y) (λ z. rw z);
+    }
+
+pub copying-not-dynamic : ¬ Dynamic k10 copying
+unfolding bit
+copying-not-dynamic d =
+    let same : SameHistory k10 copying 0 1 0
+    = λ l v. (λ h. absurd (not-suc-le-zero (h .before)), λ h. absurd (not-suc-le-zero (h .before))) in
+    let e : _≡_ {A = Bool} true false = d .choices 1 0 one none 1 refl same in
+    clash refl e
+  where
+    one : ConditionScenario k10 1
+    one zero b = refl
+    one (suc l) b = clash b (bit-zero l)
+
+    none : ConditionScenario k10 0
+    none l b = clash b (bit-zero l)

@@ -1,13 +1,13 @@
 -- Laws of the game: what a move changes. Only the checker need believe this file.
 use mathlib.Core.Path.{_≡_, refl, sym, _∙_}
 use mathlib.Core.Bool.{true, false, not, _&&_, and-false}
-use Prim.Native.Nat.{ℕ, suc, _<_, _^_}
+use Prim.Native.Nat.{ℕ, suc, _<_}
 use Rattle.network.specs.Mask.{bit, count}
 use Rattle.network.specs.Network.{Network, condition, decision}
 use Rattle.network.specs.Game.{State, start, Move, hears, settles, Legal, Outcome, outcomes, outcomeAt, after, Over}
 use Rattle.network.proofs.Booleans.{by-test, clash, and-left, and-right, not-true}
 use Rattle.network.proofs.BelowLaws.{count-drop}
-use Rattle.network.proofs.MaskLaws.{bit-mask, in-mask, bits-lt}
+use Rattle.network.proofs.MaskLaws.{bit-mask, in-mask}
 use Rattle.network.proofs.SubmaskLaws.{rank, rank-lt, submask-rank, in-submask}
 use Rattle.network.proofs.NetworkLaws.{condition-lt, decision-lt}
 
@@ -23,15 +23,9 @@ module _ (net : Network) where
   pub settled-decision : (m : Move) (l : ℕ) → settles net m l ≡ true → decision net l ≡ true
   settled-decision m l y = and-left (decision net l) (bit (m .points) (net .disclosing l)) y
 
-  pub settled-point : (m : Move) (l : ℕ) → settles net m l ≡ true → bit (m .points) (net .disclosing l) ≡ true
-  settled-point m l y = and-right (decision net l) (bit (m .points) (net .disclosing l)) y
-
   -- a set of points left lies among the points
   abbrev pub Inside : State → Type 0
   Inside s = (x : ℕ) → bit (s .left) x ≡ true → x < net .points
-
-  pub points-lt : (s : State) (m : Move) → Inside s → Legal net s m → m .points < 2 ^ net .points
-  points-lt s m in-s lg = bits-lt (net .points) (m .points) (λ x y. in-s x (lg .not-yet x y))
 
   -- where a move is legal, a point is left
   pub not-over : {C : Type 0} (s : State) (m : Move) → Legal net s m → Over net s → C

@@ -2,14 +2,14 @@
 -- need believe this file.
 use mathlib.Core.Path.{_≡_, refl, sym, ap, _∙_}
 use mathlib.Core.Logic.{_↔_, by-cases}
-use mathlib.Core.Bool.{Bool, true, false, _&&_, _||_, xor}
-use Prim.Native.Nat.{ℕ, zero, suc, _+_, _*_, _/_, _%_, _^_, _<_, min, max}
+use mathlib.Core.Bool.{Bool, true, _&&_, xor}
+use Prim.Native.Nat.{ℕ, zero, suc, _+_, _*_, _/_, _%_, _^_, _<_, min}
 use native.Mathlib.Omega.{arith}
 use native.Mathlib.Decide.{decLt}
-use native.Mathlib.Nat.{pow-suc, not-suc-le-zero, div-div-eq-div-mul}
+use native.Mathlib.Nat.{pow-suc, div-div-eq-div-mul}
 use lib.Dec.{eqb}
-use lib.Bits.{bitAnd, bitOr, bitXor, differ, and-step, or-step, xor-step}
-use lib.Count.{ones, onesIn, ones-step, trailingZeros}
+use lib.Bits.{bitAnd, bitXor, differ, and-step, xor-step}
+use lib.Count.{ones, onesIn, ones-step}
 use Rattle.network.specs.Mask.{bit, digit, mask, count}
 use Rattle.network.proofs.Booleans.{by-test, and-left, and-right, and-make, both-ways, eqb-yes, eqb-is, differs}
 use Rattle.network.proofs.MaskLaws.{bit-mask, bit-mask-above, bits-ext}
@@ -54,12 +54,6 @@ bit-and =
     bitwise-bit bitAnd min _&&_ and-step
     (two (λ x y. min x y < 2) (omega arith) (omega arith) (omega arith) (omega arith))
     (two (λ x y. eqb (min x y) 1 ≡ (eqb x 1 && eqb y 1)) refl refl refl refl)
-
-pub bit-or : (a b i : ℕ) → bit (bitOr a b) i ≡ (bit a i || bit b i)
-bit-or =
-    bitwise-bit bitOr max _||_ or-step
-    (two (λ x y. max x y < 2) (omega arith) (omega arith) (omega arith) (omega arith))
-    (two (λ x y. eqb (max x y) 1 ≡ (eqb x 1 || eqb y 1)) refl refl refl refl)
 
 pub bit-xor : (a b i : ℕ) → bit (bitXor a b) i ≡ xor (bit a i) (bit b i)
 unfolding xor
@@ -108,27 +102,3 @@ ones-count zero m h = let e : m ≡ 0 = omega arith in rw e
 ones-count (suc n) m h =
     let r = ones-count n (m / 2) (let q : m < 2 ^ n * 2 = rw (← pow-suc) h in omega arith) in
     ones-step m ∙ rw (r) (ap (λ (x : ℕ). x + count n (bit (m / 2))) (digit-odd m))
-
--- ---- the lowest member, by trailing zeros
-
-pub record Lowest (n m t : ℕ) : Type 0 where
-  pub small : t < n
-  pub member : bit m t ≡ true
-  pub none-below : (i : ℕ) → i < t → bit m i ≡ false
-
-pub lowest-is : (n m : ℕ) → 0 < m → m < 2 ^ n → Lowest n m (trailingZeros n m)
-unfolding trailingZeros bit
-lowest-is zero m pos h = absurd (omega arith)
-lowest-is (suc n) m pos h = by-test (eqb (m % 2) 1)
-    (λ y. let e = eqb-is (m % 2) 1 y in
-    rw e (record { small = omega arith; member = y; none-below = λ i lt. absurd (not-suc-le-zero lt) }))
-    (λ z. let d = differs (m % 2) 1 z in
-    let e : m % 2 ≡ 0 = omega arith in
-    let r = lowest-is n (m / 2) (omega arith) (let q : m < 2 ^ n * 2 = rw (← pow-suc) h in omega arith) in
-    rw e (record { small = (let s = r .small in omega arith); member = r .member; none-below = below z r }))
-  where
-    below :
-        eqb (m % 2) 1 ≡ false → Lowest n (m / 2) (trailingZeros n (m / 2)) → (i : ℕ) → i < suc (trailingZeros n (m / 2)) →
-        bit m i ≡ false
-    below z r zero lt = z
-    below z r (suc i) lt = r .none-below i (omega arith)

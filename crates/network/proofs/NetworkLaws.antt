@@ -1,14 +1,15 @@
 -- Laws of networks: kinds of letters, and what `keeps` looks at. Only the checker need believe this file.
-use mathlib.Core.Path.{_≡_, refl}
+use mathlib.Core.Path.{_≡_, refl, sym}
 use mathlib.Core.Logic.{_↔_}
 use mathlib.Core.List.{List, [], _∷_}
-use mathlib.Core.Bool.{true, false, not, _&&_}
+use mathlib.Core.Bool.{Bool, true, false, not, _&&_, Bool·beq}
 use Prim.Native.Nat.{ℕ, _<_}
+use native.Mathlib.Omega.{arith}
 use lib.Dec.{ltb}
 use Rattle.network.specs.Mask.{bit}
 use Rattle.network.specs.Network.{Label, Constraint, Network, Scenario, Schedule, condition, decision, combined, holds, projected, satisfies, feasible, keeps, Each, InNetwork, IsNetwork}
 use Rattle.network.proofs.Booleans.{by-test, clash, and-left, and-right, and-make, ltb-yes, ltb-is}
-use Rattle.network.proofs.BelowLaws.{all-cong}
+use Rattle.network.proofs.BelowLaws.{all-at, all-make, all-cong}
 
 module _ (net : Network) where
   -- ---- kinds of letters
@@ -70,6 +71,30 @@ module _ (net : Network) where
   pub keeps-is : (ψ : Schedule) (s : Scenario) → (keeps net ψ s ≡ true) ↔ KeepsEach ψ s (net .constraints)
   unfolding keeps
   keeps-is ψ s = (each-kept ψ s (net .constraints), kept-each ψ s (net .constraints))
+
+  -- the label test, in document 01's words: each letter in "need" has the value that "true" shows
+  pub holds-exactly :
+      IsNetwork net → (s : Scenario) (c : Constraint) → InNetwork net c →
+      (holds s (c .label) ≡ true) ↔ ((l : ℕ) → bit (c .label .need) l ≡ true → s l ≡ bit (c .label .truth) l)
+  unfolding holds
+  holds-exactly wf s c in-net =
+      let few = wf .letters-in-a-byte in (
+        λ t l y. let lt = in-net .over-letters l y in
+            same (s l) (bit (c .label .truth) l) (rw y at (all-at 8 _ t l (omega arith))),
+        λ h. all-make 8 _ (λ l lt. by-test (bit (c .label .need) l)
+            (λ y. rw (y, h l y) (alike (bit (c .label .truth) l)))
+            (λ z. rw z)),
+      )
+    where
+      same : (a b : Bool) → Bool·beq a b ≡ true → a ≡ b
+      same true true e = refl
+      same true false e = sym e
+      same false true e = e
+      same false false e = refl
+
+      alike : (b : Bool) → Bool·beq b b ≡ true
+      alike true = refl
+      alike false = refl
 
   -- the label test looks only at the values of the letters that it needs
   pub holds-cong : (s s′ : Scenario) (b : Label) → ((l : ℕ) → bit (b .need) l ≡ true → s l ≡ s′ l) → holds s b ≡ holds s′ b

@@ -107,16 +107,6 @@ submask-zero (suc n) f =
     let r = submask-zero n (λ i. f (suc i)) in
     by-test (f zero) (λ y. rw y (rw r)) (λ z. rw z (rw r))
 
-pub submask-cong : (n : ℕ) (f g : ℕ → Bool) (k : ℕ) → ((i : ℕ) → i < n → f i ≡ g i) → submask n f k ≡ submask n g k
-unfolding submask
-submask-cong zero f g k h = refl
-submask-cong (suc n) f g k h =
-    rw (
-      h zero (omega arith),
-      submask-cong n (λ i. f (suc i)) (λ i. g (suc i)) (k / 2) (λ i lt. h (suc i) (omega arith)),
-      submask-cong n (λ i. f (suc i)) (λ i. g (suc i)) k (λ i lt. h (suc i) (omega arith)),
-    )
-
 -- ---- a set by its mask, in a wider range
 
 pub submask-empty : (n k : ℕ) → submask n (bit 0) k ≡ 0

@@ -4,14 +4,16 @@ use mathlib.Core.Logic.{_↔_}
 use mathlib.Core.List.{List}
 use mathlib.Core.Bool.{true, false}
 use Prim.Native.Nat.{ℕ, suc, _*_, _≤_, _<_}
-use Rattle.network.specs.Network.{Network, IsNetwork}
+use Rattle.network.specs.Mask.{bit}
+use Rattle.network.specs.Network.{Constraint, Network, Scenario, Schedule, holds, satisfies, keeps, Each, InNetwork, IsNetwork}
 use Rattle.network.specs.Strategy.{Viable, Dynamic, DynamicallyConsistent}
-use Rattle.network.specs.Game.{State, start, Move, Legal, outcomes, after}
+use Rattle.network.specs.Game.{State, start, Move, Legal, outcomes, after, Over, Kept}
 use Rattle.network.specs.Tree.{Tree, Sound, Shaped, Wins, strategyOf, nodes, room}
 use Rattle.network.specs.FirstMoves.{CanBeWon, FirstMoves, SameTree}
 use Rattle.network.specs.Search.{firstTree, hopeless}
 use Rattle.network.specs.Policy.{Policy, SucceedsAlways}
-use Rattle.network.specs.Crew.{Step, Follows, AtEnd, HeardAlike, ToldAlike}
+use Rattle.network.specs.Crew.{Step, Follows, AtEnd, stateAfter, HeardAlike, ToldAlike}
+use Rattle.network.proofs.NetworkLaws as network
 use Rattle.network.proofs.TreeStrategy as tree
 use Rattle.network.proofs.FirstLaws as first
 use Rattle.network.proofs.SizeLaws as size
@@ -19,6 +21,18 @@ use Rattle.network.proofs.PolicyLaws as policy
 use Rattle.network.proofs.CrewLaws as crew
 
 module _ (net : Network) (wf : IsNetwork net) where
+  -- Before the theorems: the label test and `keeps`, in document 01's words. A label holds when each letter in "need" has the value that
+  -- "true" shows; the constraints are kept when each one whose label holds is satisfied.
+  pub label-holds-exactly :
+      (s : Scenario) (c : Constraint) → InNetwork net c →
+      (holds s (c .label) ≡ true) ↔ ((l : ℕ) → bit (c .label .need) l ≡ true → s l ≡ bit (c .label .truth) l)
+  label-holds-exactly = network.holds-exactly net wf
+
+  pub keeps-exactly :
+      (ψ : Schedule) (s : Scenario) →
+      (keeps net ψ s ≡ true) ↔ Each (λ c. holds s (c .label) ≡ true → satisfies ψ c ≡ true) (net .constraints)
+  keeps-exactly = network.keeps-is net
+
   -- Theorem 1. A tree sound in shape describes a dynamic strategy, which is viable exactly where every path of the tree keeps every
   -- constraint whose label holds on it.
   pub tree-dynamic : (t : Tree) → Shaped net t → Dynamic net (strategyOf net t)
@@ -35,6 +49,10 @@ module _ (net : Network) (wf : IsNetwork net) where
   -- of first moves (so that no earlier move at any of its nodes can be won), and there is no other.
   pub hopeless-exactly : (hopeless net ≡ true) ↔ (¬ DynamicallyConsistent net)
   hopeless-exactly = first.hopeless-exactly net wf
+
+  -- .. which is decided, so "no strategy exists" loses nothing
+  pub consistent-decided : Dec (DynamicallyConsistent net)
+  consistent-decided = first.decided net wf
 
   pub first-tree-first : hopeless net ≡ false → FirstMoves net (firstTree net) (start net)
   first-tree-first = first.tree-of-first-moves net
@@ -65,6 +83,12 @@ module _ (net : Network) (wf : IsNetwork net) where
 
   pub winning-policy : (t : Tree) → Wins net t → (π : Policy) × SucceedsAlways net π
   winning-policy t w = policy.policy-exactly net wf .1 (tree.wins→consistent net wf t w)
+
+  -- Theorem 6, before it: a crew at the end of a tree that wins has performed every point and kept every relevant constraint.
+  pub crew-at-end :
+      (t : Tree) → Wins net t → (log : List Step) → Follows net t log → AtEnd t log →
+      Over net (stateAfter net (start net) log) × Kept net (stateAfter net (start net) log)
+  crew-at-end t w log fo en = crew.run-ends net wf (Kept net) t (start net) log w fo en
 
   -- Theorem 6. Two crews on one tree that heard alike before a slot, both at the end, were told alike in it.
   pub heard-alike-told-alike :

@@ -3,7 +3,7 @@ use mathlib.Core.Path.{_≡_}
 use mathlib.Core.Bool.{Bool, true, false, not, cond, _&&_}
 use Prim.Native.Nat.{ℕ, suc, _≤_, _<_, _^_}
 use Rattle.network.specs.Mask.{bit, mask, count, submask}
-use Rattle.network.specs.Network.{Network, Schedule, condition, decision, combined, keeps}
+use Rattle.network.specs.Network.{Network, Schedule, conditionAt, decisionAt, combined, keeps}
 
 -- Where the game stands: the first slot still open, the points not yet performed, the slots of those performed, the conditions heard
 -- true, the decisions set true.
@@ -25,10 +25,10 @@ pub record Move : Type 0 where
 
 -- the conditions heard after a move, the decisions set by it: those that its points disclose
 abbrev pub hears : Network → Move → ℕ → Bool
-hears net m l = condition net l && bit (m .points) (net .disclosing l)
+hears net m = conditionAt net (m .points)
 
 abbrev pub settles : Network → Move → ℕ → Bool
-settles net m l = decision net l && bit (m .points) (net .disclosing l)
+settles net m = decisionAt net (m .points)
 
 -- A legal move: a slot later than the last (the first may be 0) and within the horizon, a non-empty set of points not yet performed,
 -- and choices only for decisions disclosed by those points.
@@ -66,5 +66,8 @@ abbrev pub Over : Network → State → Type 0
 Over net s = (x : ℕ) → x < net .points → bit (s .left) x ≡ false
 
 -- what must hold at the end: every constraint whose label holds is kept
+abbrev pub kept : Network → State → Bool
+kept net s = keeps net (s .slots) (combined net (s .heard) (s .decided))
+
 abbrev pub Kept : Network → State → Type 0
-Kept net s = keeps net (s .slots) (combined net (s .heard) (s .decided)) ≡ true
+Kept net s = kept net s ≡ true

@@ -38,6 +38,13 @@ condition net l = ltb l (net .letters) && not (net .is-decision l)
 abbrev pub decision : Network → ℕ → Bool
 decision net l = ltb l (net .letters) && net .is-decision l
 
+-- those of them that a set of points discloses
+abbrev pub conditionAt : Network → ℕ → ℕ → Bool
+conditionAt net points l = condition net l && bit points (net .disclosing l)
+
+abbrev pub decisionAt : Network → ℕ → ℕ → Bool
+decisionAt net points l = decision net l && bit points (net .disclosing l)
+
 -- Definition 3. A scenario gives each letter a value. Condition scenarios cs and decision scenarios ds are masks; this is cs ∪ ds.
 abbrev pub Scenario : Type 0
 Scenario = ℕ → Bool

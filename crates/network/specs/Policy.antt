@@ -5,7 +5,7 @@ use mathlib.Core.List.{List, [], _∷_}
 use mathlib.Core.Bool.{Bool, true, _&&_}
 use Prim.Native.Nat.{ℕ, zero, suc, _<_}
 use Rattle.network.specs.Mask.{bit, mask, count, firstBelow}
-use Rattle.network.specs.Network.{Network, Schedule, condition, decision, combined, keeps}
+use Rattle.network.specs.Network.{Network, Schedule, conditionAt, decision, combined, keeps}
 use Rattle.network.specs.Strategy.{ConditionScenario}
 
 -- what a crew does in one slot: the points that it performs, perhaps none, and its choices
@@ -26,8 +26,8 @@ Policy = ℕ → List Observation → Action
 unfoldable pub observe : Network → Action → ℕ → Observation
 observe net a cs =
     record {
-      conditions = mask (net .letters) (λ l. condition net l && bit (a .points) (net .disclosing l));
-      true-ones = mask (net .letters) (λ l. (condition net l && bit (a .points) (net .disclosing l)) && bit cs l);
+      conditions = mask (net .letters) (conditionAt net (a .points));
+      true-ones = mask (net .letters) (λ l. conditionAt net (a .points) l && bit cs l);
     }
 
 -- a policy played against cs: what is heard from the slots before u, and what is done in slot u

@@ -3,15 +3,12 @@
 use mathlib.Core.Bool.{Bool, not, cond, _&&_}
 use Prim.Native.Nat.{ℕ, zero, suc, _+_, _-_, _^_}
 use Rattle.network.specs.Mask.{bit, allBelow, anyBelow, firstBelow, count, submask}
-use Rattle.network.specs.Network.{Network, combined, keeps}
-use Rattle.network.specs.Game.{State, start, Move, settles, outcomes, outcomeAt, after}
+use Rattle.network.specs.Network.{Network}
+use Rattle.network.specs.Game.{State, start, Move, settles, outcomes, outcomeAt, after, kept}
 use Rattle.network.specs.Tree.{Tree, done, node}
 
 unfoldable pub over : Network → State → Bool
 over net s = allBelow (net .points) (λ x. not (bit (s .left) x))
-
-abbrev pub kept : Network → State → Bool
-kept net s = keeps net (s .slots) (combined net (s .heard) (s .decided))
 
 -- The legal moves, numbered: slot i after the first open one, number j of the sets of points left (0 is the empty one), number k of the
 -- sets of decisions that those points disclose.

@@ -3,7 +3,7 @@ use mathlib.Core.Bool.{_&&_}
 use Prim.Native.Nat.{ℕ, suc, _+_, _-_, _*_, _^_}
 use mathlib.Core.List.{List, [], _∷_}
 use Rattle.network.specs.Mask.{bit, mask, count, sumBelow, joinBelow}
-use Rattle.network.specs.Network.{Network, condition}
+use Rattle.network.specs.Network.{Network, conditionAt}
 use Rattle.network.specs.Strategy.{Strategy}
 use Rattle.network.specs.Game.{State, start, Move, hears, Legal, Outcome, outcomes, outcomeAt, after, Over, Kept}
 
@@ -54,7 +54,7 @@ abbrev pub pointsLeft : Network → State → ℕ
 pointsLeft net s = count (net .points) (bit (s .left))
 
 abbrev pub conditionsLeft : Network → State → ℕ
-conditionsLeft net s = count (net .letters) (λ l. condition net l && bit (s .left) (net .disclosing l))
+conditionsLeft net s = count (net .letters) (conditionAt net (s .left))
 
 unfoldable pub room : Network → State → ℕ
 room net s = 2 ^ conditionsLeft net s * (pointsLeft net s - conditionsLeft net s + 1)

@@ -1,8 +1,10 @@
 -- Laws of masks as bytes: how many submasks there are, the lowest member, submasks with and without it. Only the checker need believe this file.
 use mathlib.Core.Path.{_≡_, refl}
+use mathlib.Core.Logic.{by-cases}
 use mathlib.Core.Bool.{true, false}
 use Prim.Native.Nat.{ℕ, zero, suc, _+_, _-_, _*_, _/_, _%_, _^_, _≤_, _<_}
 use native.Mathlib.Omega.{arith}
+use native.Mathlib.Decide.{decLt}
 use native.Mathlib.Nat.{pow-suc, mul-assoc}
 use lib.Dec.{eqb}
 use lib.Pow.{pow-mono}
@@ -10,7 +12,6 @@ use lib.Count.{trailingZeros}
 use Rattle.network.specs.Mask.{bit, count, firstBelow, submask}
 use Rattle.network.proofs.Booleans.{by-test, differs, eqb-is}
 use Rattle.network.proofs.BelowLaws.{count-le}
-use Rattle.network.proofs.MachineLaws.{lowest-is}
 
 -- a byte has at most 8 members, so 16 bits hold the number of its submasks
 pub submasks-fit : (m : ℕ) → 2 ^ count 8 (bit m) < 65536
@@ -71,8 +72,9 @@ pub record LowestByte (m k t : ℕ) : Type 0 where
 pub lowest-byte : (m k t : ℕ) → t ≡ firstBelow 8 (bit m) → 0 < m → m < 2 ^ 8 → LowestByte m k t
 lowest-byte m k t e p h =
     let r : Parted 8 m k (2 ^ t) = rw e (parted 8 m k p h) in
-    let s = lowest-is 8 m p h .small in
-    let f = trailing-first 8 m in
     let l = r .part in
     let q : 1 * 2 ^ t % 256 ≡ 2 ^ t = omega arith in
-    record { small = omega arith; parted = rw q r }
+    record {
+      small = by-cases (decLt t 8) (λ lt. lt) (λ ge. let g = pow-mono {i = 8} {j = t} (omega arith) in absurd (omega arith));
+      parted = rw q r;
+    }

@@ -6,4 +6,5 @@ pub mod JudgeLaws
 pub mod RefusalLaws
 pub mod WellFormedLaws
 pub mod OutcomeLaws
+pub mod Cases
 pub mod PlanTheorems

@@ -13,19 +13,19 @@ use Rattle.plan.specs.Plan.{networkOf}
 use Rattle.plan.specs.Letters.{heardBy, settledBy}
 
 module _ (p : Plan) (few : p .letters ≤ 6) (m : Move) where
-  pub heard-is : heardBy p (m .points) ≡ mask (p .letters) (hears (networkOf p) m)
-  heard-is =
+  pub heard-by-is : heardBy p (m .points) ≡ mask (p .letters) (hears (networkOf p) m)
+  heard-by-is =
       mask-narrow (p .letters) 6 (hears (networkOf p) m) few
       (λ l y. condition-lt (networkOf p) l (heard-condition (networkOf p) m l y))
 
-  pub settled-is : settledBy p (m .points) ≡ mask (p .letters) (settles (networkOf p) m)
-  settled-is =
+  pub settled-by-is : settledBy p (m .points) ≡ mask (p .letters) (settles (networkOf p) m)
+  settled-by-is =
       mask-narrow (p .letters) 6 (settles (networkOf p) m) few
       (λ l y. decision-lt (networkOf p) l (settled-decision (networkOf p) m l y))
 
   -- how many outcomes there are, and outcome number k
-  pub outcomes-are : 2 ^ count 8 (bit (heardBy p (m .points))) ≡ outcomes (networkOf p) m
-  outcomes-are = rw heard-is (ap (λ (x : ℕ). 2 ^ x) (count-wide (p .letters) 8 (hears (networkOf p) m) (omega arith)))
+  pub submasks-are-outcomes : 2 ^ count 8 (bit (heardBy p (m .points))) ≡ outcomes (networkOf p) m
+  submasks-are-outcomes = rw heard-by-is (ap (λ (x : ℕ). 2 ^ x) (count-wide (p .letters) 8 (hears (networkOf p) m) (omega arith)))
 
-  pub outcome-is : (k : ℕ) → submask 8 (bit (heardBy p (m .points))) k ≡ outcomeAt (networkOf p) m k
-  outcome-is k = rw heard-is (submask-wide (p .letters) 8 (hears (networkOf p) m) k (omega arith))
+  pub numbered-is-outcome : (k : ℕ) → submask 8 (bit (heardBy p (m .points))) k ≡ outcomeAt (networkOf p) m k
+  numbered-is-outcome k = rw heard-by-is (submask-wide (p .letters) 8 (hears (networkOf p) m) k (omega arith))

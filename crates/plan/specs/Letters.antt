@@ -1,8 +1,8 @@
 -- Definitions: masks of a plan's letters. A plan record has room for six. A reader must believe this file.
-use mathlib.Core.Bool.{Bool, true, false, _&&_}
+use mathlib.Core.Bool.{Bool, true, false}
 use Prim.Native.Nat.{ℕ}
 use Rattle.network.specs.Mask.{bit, mask}
-use Rattle.network.specs.Network.{Network, condition, decision}
+use Rattle.network.specs.Network.{Network, condition, decision, conditionAt, decisionAt}
 use Rattle.plan.specs.declared.Plan.{Plan}
 use Rattle.plan.specs.Plan.{networkOf}
 
@@ -17,7 +17,7 @@ disclosedBy p points = mask 6 (λ l. bit points (networkOf p .disclosing l))
 
 -- the conditions among them, heard after a move; the decisions among them, set by it
 abbrev pub heardBy : Plan → ℕ → ℕ
-heardBy p points = mask 6 (λ l. condition (networkOf p) l && bit points (networkOf p .disclosing l))
+heardBy p points = mask 6 (conditionAt (networkOf p) points)
 
 abbrev pub settledBy : Plan → ℕ → ℕ
-settledBy p points = mask 6 (λ l. decision (networkOf p) l && bit points (networkOf p .disclosing l))
+settledBy p points = mask 6 (decisionAt (networkOf p) points)

@@ -1,0 +1,130 @@
+-- Cases: plan records of document 01 and at the edges of its ranges, judged, and the networks that they describe, computed. Only the
+-- checker need believe this file; a reader may like to.
+use mathlib.Core.Path.{_≡_, refl}
+use mathlib.Core.List.{List, [], _∷_, _++_}
+use mathlib.Core.Bool.{true, false}
+use Prim.Native.Nat.{ℕ, _-_}
+use lib.ListN.{length, replicate}
+use Rattle.network.specs.Mask.{bit, mask, count, allBelow, anyBelow, firstBelow, joinBelow, submask}
+use Rattle.network.specs.Network.{holds, projected, atMost, feasible, keeps}
+use Rattle.network.specs.Game.{start, Move, after}
+use Rattle.network.specs.Tree.{preorder}
+use Rattle.network.specs.Search.{over, winsBy, winsWith, winsIn, winnable, firstMove, firstTreeFrom, firstTree, hopeless}
+use Rattle.plan.specs.declared.Letter.{Letter}
+use Rattle.plan.specs.declared.Constraint.{Constraint}
+use Rattle.plan.specs.declared.Plan.{Plan}
+use Rattle.plan.specs.declared.Refusal.the-variants as refusal
+use Rattle.plan.specs.Refusal.{refusalNumber}
+use Rattle.plan.specs.Plan.{zeroLetter, zeroConstraint, signed, listed, networkOf}
+use Rattle.plan.specs.Judge.{headFine, takenBefore, letterFine, letterUnused, letterEntry, lettersFine, boundFine, constraintFine, constraintUnused, constraintEntry, constraintsFine, planFault}
+
+-- disclosing point, kind
+abbrev letter : ℕ → ℕ → Letter
+letter x k = record { point = x; kind = k }
+
+-- X, Y, bound in two's complement, need, true
+abbrev constraint : ℕ → ℕ → ℕ → ℕ → ℕ → Constraint
+constraint x y d n t = record { from = x; to = y; bound = d; need = n; truth = t }
+
+-- a head, and the entries that are not zero
+abbrev record-of : ℕ → ℕ → ℕ → ℕ → List Letter → List Constraint → Plan
+record-of h n l c ls cs =
+    record {
+      horizon = h;
+      points = n;
+      letters = l;
+      constraints = c;
+      letter = ls ++ replicate (6 - length ls) zeroLetter;
+      constraint = cs ++ replicate (64 - length cs) zeroConstraint;
+    }
+
+-- as many entries as the head says
+abbrev plan : ℕ → ℕ → List Letter → List Constraint → Plan
+plan h n ls cs = record-of h n (length ls) (length cs) ls cs
+
+abbrev move : ℕ → ℕ → ℕ → Move
+move t ps ch = record { slot = t; points = ps; choices = ch }
+
+-- ---- the network of a plan: document 01's K4, K5, K7, K8, and K4 with its two points exchanged
+
+abbrev apart : ℕ → List Constraint
+apart d = constraint 0 1 d 1 1 ∷ (constraint 1 0 65534 1 0 ∷ [])
+
+abbrev k4 : Plan
+k4 = plan 2 2 (letter 0 0 ∷ []) (apart 1)
+
+abbrev k5 : Plan
+k5 = plan 1 2 (letter 0 0 ∷ []) (apart 1)
+
+abbrev k7 : Plan
+k7 = plan 2 2 (letter 0 1 ∷ []) (apart 0)
+
+abbrev k8 : Plan
+k8 = plan 1 2 (letter 0 1 ∷ []) (apart 0)
+
+abbrev exchanged : Plan
+exchanged = plan 2 2 (letter 1 0 ∷ []) (constraint 1 0 1 1 1 ∷ (constraint 0 1 65534 1 0 ∷ []))
+
+pub verdicts :
+    (hopeless (networkOf k4) ≡ false) × (hopeless (networkOf k5) ≡ true) × (hopeless (networkOf k7) ≡ false)
+    × (hopeless (networkOf k8) ≡ false) × (hopeless (networkOf exchanged) ≡ false)
+unfolding bit mask count allBelow anyBelow submask holds projected atMost feasible keeps start after over winsBy winsWith winsIn winnable signed listed
+verdicts = (refl, refl, refl, refl, refl)
+
+pub trees :
+    (preorder (networkOf k4) (firstTree (networkOf k4)) ≡ move 0 1 0 ∷ (move 2 2 0 ∷ (move 1 2 0 ∷ [])))
+    × (preorder (networkOf k7) (firstTree (networkOf k7)) ≡ move 0 1 0 ∷ (move 2 2 0 ∷ []))
+    × (preorder (networkOf k8) (firstTree (networkOf k8)) ≡ move 0 2 0 ∷ (move 1 1 1 ∷ []))
+    × (preorder (networkOf exchanged) (firstTree (networkOf exchanged)) ≡ move 0 2 0 ∷ (move 2 1 0 ∷ (move 1 1 0 ∷ [])))
+unfolding bit mask count allBelow anyBelow firstBelow joinBelow submask holds projected atMost feasible keeps start after over winsBy winsWith winsIn winnable firstMove firstTreeFrom preorder signed listed
+trees = (refl, refl, refl, refl)
+
+-- ---- fine: both ends of each range
+
+pub fine :
+    (planFault k4 ≡ 0) × (planFault (plan 0 1 [] []) ≡ 0) × (planFault (plan 63 8 [] []) ≡ 0)
+    × (planFault (plan 0 1 (letter 0 0 ∷ []) []) ≡ 0)
+    × (planFault (plan 0 6 (letter 5 0 ∷ (letter 4 1 ∷ (letter 3 0 ∷ (letter 2 1 ∷ (letter 1 0 ∷ (letter 0 1 ∷ [])))))) []) ≡ 0)
+    × (planFault (plan 0 1 [] (replicate 64 (constraint 0 0 999 0 0))) ≡ 0)
+    × (planFault (plan 0 1 [] (constraint 0 0 64537 0 0 ∷ [])) ≡ 0)
+    × (planFault (plan 0 2 (letter 0 0 ∷ (letter 1 0 ∷ [])) (constraint 1 1 0 3 3 ∷ [])) ≡ 0)
+unfolding bit allBelow anyBelow headFine takenBefore letterFine letterUnused letterEntry lettersFine boundFine constraintFine constraintUnused constraintEntry constraintsFine planFault
+fine = (refl, refl, refl, refl, refl, refl, refl, refl)
+
+-- ---- the head: just outside each range; before any fault of an entry
+
+pub heads :
+    (planFault (plan 64 1 [] []) ≡ refusalNumber refusal.Head) × (planFault (plan 0 0 [] []) ≡ refusalNumber refusal.Head)
+    × (planFault (plan 0 9 [] []) ≡ refusalNumber refusal.Head)
+    × (planFault (record-of 0 8 7 0 [] []) ≡ refusalNumber refusal.Head)
+    × (planFault (plan 0 1 (letter 0 0 ∷ (letter 0 0 ∷ [])) []) ≡ refusalNumber refusal.Head)
+    × (planFault (record-of 0 1 0 65 [] []) ≡ refusalNumber refusal.Head)
+    × (planFault (plan 64 1 (letter 9 9 ∷ []) (constraint 9 9 1000 0 0 ∷ [])) ≡ refusalNumber refusal.Head)
+unfolding headFine planFault
+heads = (refl, refl, refl, refl, refl, refl, refl)
+
+-- ---- the letters: point, kind, a point taken, an unused entry; before any fault of a constraint
+
+pub letters :
+    (planFault (plan 0 1 (letter 1 0 ∷ []) []) ≡ refusalNumber refusal.Letters)
+    × (planFault (plan 0 1 (letter 0 2 ∷ []) []) ≡ refusalNumber refusal.Letters)
+    × (planFault (plan 0 3 (letter 2 0 ∷ (letter 1 0 ∷ (letter 2 1 ∷ []))) []) ≡ refusalNumber refusal.Letters)
+    × (planFault (record-of 0 2 0 0 (letter 1 0 ∷ []) []) ≡ refusalNumber refusal.Letters)
+    × (planFault (record-of 0 1 0 0 (replicate 5 zeroLetter ++ (letter 0 1 ∷ [])) []) ≡ refusalNumber refusal.Letters)
+    × (planFault (plan 0 1 (letter 0 2 ∷ []) (constraint 9 9 1000 0 0 ∷ [])) ≡ refusalNumber refusal.Letters)
+unfolding allBelow anyBelow headFine takenBefore letterFine letterUnused letterEntry lettersFine planFault
+letters = (refl, refl, refl, refl, refl, refl)
+
+-- ---- the constraints: points, bound, masks, an unused entry
+
+pub constraints :
+    (planFault (plan 0 1 [] (constraint 1 0 0 0 0 ∷ [])) ≡ refusalNumber refusal.Constraints)
+    × (planFault (plan 0 1 [] (constraint 0 1 0 0 0 ∷ [])) ≡ refusalNumber refusal.Constraints)
+    × (planFault (plan 0 1 [] (constraint 0 0 1000 0 0 ∷ [])) ≡ refusalNumber refusal.Constraints)
+    × (planFault (plan 0 1 [] (constraint 0 0 64536 0 0 ∷ [])) ≡ refusalNumber refusal.Constraints)
+    × (planFault (plan 0 1 (letter 0 0 ∷ []) (constraint 0 0 0 2 0 ∷ [])) ≡ refusalNumber refusal.Constraints)
+    × (planFault (plan 0 2 (letter 0 0 ∷ (letter 1 0 ∷ [])) (constraint 0 0 0 1 2 ∷ [])) ≡ refusalNumber refusal.Constraints)
+    × (planFault (record-of 0 2 0 0 [] (constraint 0 1 0 0 0 ∷ [])) ≡ refusalNumber refusal.Constraints)
+    × (planFault (record-of 0 1 0 63 [] (replicate 63 zeroConstraint ++ (constraint 0 0 1 0 0 ∷ []))) ≡ refusalNumber refusal.Constraints)
+unfolding bit allBelow anyBelow headFine takenBefore letterFine letterUnused letterEntry lettersFine boundFine constraintFine constraintUnused constraintEntry constraintsFine planFault
+constraints = (refl, refl, refl, refl, refl, refl, refl, refl)
