@@ -15,6 +15,7 @@ use Rattle.plan.specs.declared.Constraint.{Constraint}
 use Rattle.plan.specs.declared.Plan.{Plan}
 use Rattle.plan.specs.declared.Refusal.the-variants as refusal
 use Rattle.plan.specs.Refusal.{refusalNumber}
+use Rattle.plan.specs.Answer.{unless, first}
 use Rattle.plan.specs.Plan.{zeroLetter, zeroConstraint, signed, listed, networkOf}
 use Rattle.plan.specs.Judge.{headFine, takenBefore, letterFine, letterUnused, letterEntry, lettersFine, boundFine, constraintFine, constraintUnused, constraintEntry, constraintsFine, planFault}
 
@@ -88,7 +89,7 @@ pub fine :
     × (planFault (plan 0 1 [] (replicate 64 (constraint 0 0 999 0 0))) ≡ 0)
     × (planFault (plan 0 1 [] (constraint 0 0 64537 0 0 ∷ [])) ≡ 0)
     × (planFault (plan 0 2 (letter 0 0 ∷ (letter 1 0 ∷ [])) (constraint 1 1 0 3 3 ∷ [])) ≡ 0)
-unfolding bit allBelow anyBelow headFine takenBefore letterFine letterUnused letterEntry lettersFine boundFine constraintFine constraintUnused constraintEntry constraintsFine planFault
+unfolding bit allBelow anyBelow headFine takenBefore letterFine letterUnused letterEntry lettersFine boundFine constraintFine constraintUnused constraintEntry constraintsFine planFault first unless
 fine = (refl, refl, refl, refl, refl, refl, refl, refl)
 
 -- ---- the head: just outside each range; before any fault of an entry
@@ -100,7 +101,7 @@ pub heads :
     × (planFault (plan 0 1 (letter 0 0 ∷ (letter 0 0 ∷ [])) []) ≡ refusalNumber refusal.Head)
     × (planFault (record-of 0 1 0 65 [] []) ≡ refusalNumber refusal.Head)
     × (planFault (plan 64 1 (letter 9 9 ∷ []) (constraint 9 9 1000 0 0 ∷ [])) ≡ refusalNumber refusal.Head)
-unfolding headFine planFault
+unfolding headFine planFault first unless
 heads = (refl, refl, refl, refl, refl, refl, refl)
 
 -- ---- the letters: point, kind, a point taken, an unused entry; before any fault of a constraint
@@ -112,7 +113,7 @@ pub letters :
     × (planFault (record-of 0 2 0 0 (letter 1 0 ∷ []) []) ≡ refusalNumber refusal.Letters)
     × (planFault (record-of 0 1 0 0 (replicate 5 zeroLetter ++ (letter 0 1 ∷ [])) []) ≡ refusalNumber refusal.Letters)
     × (planFault (plan 0 1 (letter 0 2 ∷ []) (constraint 9 9 1000 0 0 ∷ [])) ≡ refusalNumber refusal.Letters)
-unfolding allBelow anyBelow headFine takenBefore letterFine letterUnused letterEntry lettersFine planFault
+unfolding allBelow anyBelow headFine takenBefore letterFine letterUnused letterEntry lettersFine planFault first unless
 letters = (refl, refl, refl, refl, refl, refl)
 
 -- ---- the constraints: points, bound, masks, an unused entry
@@ -126,5 +127,5 @@ pub constraints :
     × (planFault (plan 0 2 (letter 0 0 ∷ (letter 1 0 ∷ [])) (constraint 0 0 0 1 2 ∷ [])) ≡ refusalNumber refusal.Constraints)
     × (planFault (record-of 0 2 0 0 [] (constraint 0 1 0 0 0 ∷ [])) ≡ refusalNumber refusal.Constraints)
     × (planFault (record-of 0 1 0 63 [] (replicate 63 zeroConstraint ++ (constraint 0 0 1 0 0 ∷ []))) ≡ refusalNumber refusal.Constraints)
-unfolding bit allBelow anyBelow headFine takenBefore letterFine letterUnused letterEntry lettersFine boundFine constraintFine constraintUnused constraintEntry constraintsFine planFault
+unfolding bit allBelow anyBelow headFine takenBefore letterFine letterUnused letterEntry lettersFine boundFine constraintFine constraintUnused constraintEntry constraintsFine planFault first unless
 constraints = (refl, refl, refl, refl, refl, refl, refl, refl)

@@ -10,6 +10,7 @@ use Rattle.network.proofs.Booleans.{both-ways, eqb-yes, eqb-is, ltb-yes, ltb-is
 use Rattle.plan.specs.declared.Plan.{Plan}
 use Rattle.plan.specs.declared.Refusal.the-variants as refusal
 use Rattle.plan.specs.Refusal.{refusalNumber}
+use Rattle.plan.specs.Answer.{unless, first}
 use Rattle.plan.specs.Judge.{headFine, lettersFine, constraintsFine, planFault}
 
 -- ---- a shift
@@ -34,17 +35,17 @@ headOf p = headFine (p .horizon) (p .points) (p .letters) (p .constraints)
 
 module _ (p : Plan) where
   pub head-fault : headOf p ≡ false → planFault p ≡ refusalNumber refusal.Head
-  unfolding planFault
+  unfolding planFault first unless
   head-fault h = rw h
 
   pub letters-fault : headOf p ≡ true → lettersFine p ≡ false → planFault p ≡ refusalNumber refusal.Letters
-  unfolding planFault
+  unfolding planFault first unless
   letters-fault h l = rw (h, l)
 
   pub constraints-fault : headOf p ≡ true → lettersFine p ≡ true → constraintsFine p ≡ false → planFault p ≡ refusalNumber refusal.Constraints
-  unfolding planFault
+  unfolding planFault first unless
   constraints-fault h l c = rw (h, l, c)
 
   pub no-fault : headOf p ≡ true → lettersFine p ≡ true → constraintsFine p ≡ true → planFault p ≡ 0
-  unfolding planFault
+  unfolding planFault first unless
   no-fault h l c = rw (h, l, c)

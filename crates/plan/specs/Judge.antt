@@ -8,7 +8,7 @@ use Rattle.plan.specs.declared.Letter.{Letter}
 use Rattle.plan.specs.declared.Constraint.{Constraint}
 use Rattle.plan.specs.declared.Plan.{Plan}
 use Rattle.plan.specs.declared.Refusal.the-variants as refusal
-use Rattle.plan.specs.Refusal.{refusalNumber}
+use Rattle.plan.specs.Answer.{unless, first}
 use Rattle.plan.specs.Plan.{letterAt, constraintAt}
 use Rattle.plan.specs.Masks.{inside}
 
@@ -54,6 +54,5 @@ constraintsFine p = allBelow 64 (constraintEntry p)
 -- the number of the first fault; 0 where there is none
 unfoldable pub planFault : Plan → ℕ
 planFault p =
-    cond (headFine (p .horizon) (p .points) (p .letters) (p .constraints))
-    (cond (lettersFine p) (cond (constraintsFine p) 0 (refusalNumber refusal.Constraints)) (refusalNumber refusal.Letters))
-    (refusalNumber refusal.Head)
+    first (unless (headFine (p .horizon) (p .points) (p .letters) (p .constraints)) refusal.Head)
+    (first (unless (lettersFine p) refusal.Letters) (unless (constraintsFine p) refusal.Constraints))

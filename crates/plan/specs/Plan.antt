@@ -4,7 +4,7 @@ use mathlib.Core.List.{List, [], _∷_}
 use Prim.Native.Nat.{ℕ, zero, suc, _-_}
 use lib.Dec.{ltb, eqb}
 use lib.IntN.{ℤ, pos, negsuc}
-use lib.ListN.{getD}
+use lib.ListN.{getD, replicate}
 use Rattle.network.specs.Network.{Label, Network}
 use Rattle.network.specs.Network as net
 use Rattle.plan.specs.declared.Letter.{Letter}
@@ -16,6 +16,18 @@ zeroLetter = record { point = 0; kind = 0 }
 
 abbrev pub zeroConstraint : Constraint
 zeroConstraint = record { from = 0; to = 0; bound = 0; need = 0; truth = 0 }
+
+-- the record that is all zero
+abbrev pub zeroPlan : Plan
+zeroPlan =
+    record {
+      horizon = 0;
+      points = 0;
+      letters = 0;
+      constraints = 0;
+      letter = replicate 6 zeroLetter;
+      constraint = replicate 64 zeroConstraint;
+    }
 
 -- entry i of the letters, entry j of the constraints; zero past the array
 abbrev pub letterAt : Plan → ℕ → Letter

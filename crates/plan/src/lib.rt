@@ -5,6 +5,7 @@ pub mod letters;
 pub mod mask;
 
 ghost use mathlib.Core.Path.{_≡_};
+ghost use Rattle.plan.specs.Plan.{zeroPlan};
 ghost use Rattle.plan.specs.Refusal.{refusalNumber};
 
 // A letter: its disclosing point, and its kind: 0 a condition, 1 a decision. A record can hold any other number.
@@ -57,6 +58,28 @@ pub enum Refusal {
 pub enum Judged {
     Fine,
     Refused(Refusal),
+}
+
+// The record that is all zero: what stands in a plan's place beside a refusal.
+pub fn zero_plan() -> Plan
+    ensures { λ r. ⌜ r ≡ zeroPlan ⌝ }
+{
+    let l = Letter { point: 0, kind: 0 };
+    let c = Constraint {
+        from: 0,
+        to: 0,
+        bound: 0,
+        need: 0,
+        truth: 0,
+    };
+    Plan {
+        horizon: 0,
+        points: 0,
+        letters: 0,
+        constraints: 0,
+        letter: [l; 6],
+        constraint: [c; 64],
+    }
 }
 
 // Document 01's number of a refusal.

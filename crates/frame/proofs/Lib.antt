@@ -1,0 +1,5 @@
+-- Laws: the modules of this folder. Only the checker need believe them.
+pub mod HexLaws
+pub mod FrameLaws
+pub mod RunLaws
+pub mod CodeLaws

@@ -1,0 +1,128 @@
+-- Laws of runs of frames. Only the checker need believe this file.
+use mathlib.Core.Path.{_≡_, refl, sym, ap, _∙_}
+use mathlib.Core.Bool.{Bool, true, false}
+use mathlib.Core.List.{List, [], _++_, append-assoc, append-nil}
+use Prim.Native.Nat.{ℕ, zero, suc, _+_, _-_, _*_, _≤_, _<_}
+use native.Mathlib.Omega.{arith}
+use lib.Dec.{eqb}
+use lib.ListN.{length, drop, take}
+use lib.Seq.{drop-at, take-at}
+use Rattle.network.specs.Mask.{joinBelow}
+use Rattle.network.proofs.Booleans.{by-test, eqb-no, eqb-is, differs}
+use Rattle.network.proofs.JoinLaws.{join-first}
+use Rattle.plan.specs.declared.Refusal.{Refusal}
+use Rattle.plan.specs.declared.Judged.the-variants as judged
+use Rattle.plan.specs.Refusal.{refusalNumber}
+use Rattle.plan.specs.Answer.{unless, first, Answer, fine, answered, andThen, filled}
+use Rattle.plan.proofs.RefusalLaws.{fine-is}
+use Rattle.frame.specs.Frame.{frameLength}
+use Rattle.frame.specs.Texts.{frameFault, framesFrom}
+
+-- ---- faults
+
+pub no-refusal : (r : Refusal) → refusalNumber r ≡ 0 → ⊥
+no-refusal r e = let f = fine-is (judged.Refused r) e in let z : _≡_ {A = ℕ} 0 1 = cc in omega arith
+
+pub unless-is : (b : Bool) (r : Refusal) → unless b r ≡ 0 → b ≡ true
+unfolding unless
+unless-is true r e = refl
+unless-is false r e = absurd (no-refusal r e)
+
+-- a frame has no fault exactly where it is whole and its values are good
+pub frame-fine-is : (text values : Refusal) (w g : Bool) → frameFault text w values g ≡ 0 → (w ≡ true) × (g ≡ true)
+unfolding frameFault first unless
+frame-fine-is text values true g e = (refl, unless-is g values e)
+frame-fine-is text values false g e =
+    absurd (no-refusal text (by-test (eqb (refusalNumber text) 0) (eqb-is (refusalNumber text) 0) (λ z. rw z at e)))
+
+pub frame-fine : (text values : Refusal) {w g : Bool} → w ≡ true → g ≡ true → frameFault text w values g ≡ 0
+unfolding frameFault first unless
+frame-fine text values e f = rw (e, f)
+
+-- ---- answers
+
+module _ {A : Type 0} where
+  pub answered-fault : (zeros : A) (n : ℕ) (a : A) → answered zeros n a .fault ≡ n
+  unfolding answered
+  answered-fault zeros n a = refl
+
+  pub answered-fine : (zeros : A) (n : ℕ) (a : A) → n ≡ 0 → answered zeros n a ≡ fine a
+  unfolding answered
+  answered-fine zeros n a e = rw e
+
+  pub then-goes : (a : Answer A) (next : A → Answer A) → a .fault ≡ 0 → andThen a next ≡ next (a .value)
+  unfolding andThen
+  then-goes a next e = rw e
+
+  pub then-stops : (a : Answer A) (next : A → Answer A) → ¬ (a .fault ≡ 0) → andThen a next ≡ a
+  unfolding andThen
+  then-stops a next n = rw (eqb-no (a .fault) 0 n)
+
+  -- no fault at the end is none on the way
+  pub then-fine : (a : Answer A) (next : A → Answer A) → andThen a next .fault ≡ 0 → a .fault ≡ 0
+  then-fine a next e =
+      by-test (eqb (a .fault) 0) (eqb-is (a .fault) 0) (λ z. rw (then-stops a next (differs (a .fault) 0 z)) at e)
+
+-- ---- lent buffers
+
+pub filled-is : (bytes xs : List ℕ) → filled 0 bytes xs ≡ bytes ++ drop (length bytes) xs
+unfolding filled
+filled-is bytes xs = refl
+
+pub filled-front : (bytes xs : List ℕ) → take (length bytes) (filled 0 bytes xs) ≡ bytes
+unfolding filled
+filled-front bytes xs = take-at bytes (drop (length bytes) xs) (length bytes) refl
+
+-- ---- runs
+
+module _ {A : Type 0} (read : A → ℕ → List ℕ → Answer A) (m : ℕ) (after : A → List ℕ → Answer A) where
+  pub frames-step :
+      (n i : ℕ) (a : A) (s : List ℕ) → i < n → framesFrom read m after (n - i) i a s
+      ≡ andThen (read a i s) (λ b. framesFrom read m after (n - (i + 1)) (i + 1) b (drop (frameLength m) s))
+  unfolding framesFrom
+  frames-step n i a s h = let e : n - i ≡ suc (n - (i + 1)) = omega arith in rw e
+
+  pub frames-end : (n i : ℕ) (a : A) (s : List ℕ) → n ≤ i → framesFrom read m after (n - i) i a s ≡ after a s
+  unfolding framesFrom
+  frames-end n i a s h = let e : n - i ≡ 0 = omega arith in rw e
+
+  -- where each text says what the next state is, the texts one after the other say the last
+  back-from :
+      (n i : ℕ) (st : ℕ → A) (f : ℕ → List ℕ) (r : List ℕ) →
+      ((k : ℕ) → k < n → (r : List ℕ) → read (st k) (i + k) (f k ++ r) ≡ fine (st (suc k))) →
+      ((k : ℕ) → k < n → length (f k) ≡ frameLength m) → framesFrom read m after n i (st 0) (joinBelow n f ++ r) ≡ after (st n) r
+  unfolding framesFrom joinBelow andThen
+  back-from zero i st f r says long = refl
+  back-from (suc n) i st f r says long =
+      let t = joinBelow n (λ k. f (suc k)) ++ r in
+      let e : joinBelow (suc n) f ++ r ≡ f 0 ++ t = rw (join-first n f) (append-assoc (f 0) (joinBelow n (λ k. f (suc k))) r) in
+      let z : i + 0 ≡ i = omega arith in
+      let now : read (st 0) i (f 0 ++ t) ≡ fine (st 1) = rw z at (says 0 (omega arith) t) in
+      ap (framesFrom read m after (suc n) i (st 0)) e ∙ rw (now, drop-at (f 0) t (frameLength m) (long 0 (omega arith)))
+      (back-from n (i + 1) (λ k. st (suc k)) (λ k. f (suc k)) r
+      (λ k lt u. let z : i + 1 + k ≡ i + suc k = omega arith in rw z (says (suc k) (omega arith) u))
+      (λ k lt. long (suc k) (omega arith)))
+
+  pub run-back :
+      (n : ℕ) (st : ℕ → A) (f : ℕ → List ℕ) (r : List ℕ) →
+      ((i : ℕ) → i < n → (r : List ℕ) → read (st i) i (f i ++ r) ≡ fine (st (suc i))) →
+      ((i : ℕ) → i < n → length (f i) ≡ frameLength m) → framesFrom read m after n 0 (st 0) (joinBelow n f ++ r) ≡ after (st n) r
+  run-back n st f r says long =
+      back-from n 0 st f r (λ k lt u. let z : 0 + k ≡ k = omega arith in rw z (says k lt u)) long
+
+  -- what each good frame keeps, a good run keeps
+  pub run-invariant :
+      (I : ℕ → A → List ℕ → Type 0) (bound : ℕ) →
+      ((i : ℕ) (a : A) (s : List ℕ) → I i a s → i < bound → read a i s .fault ≡ 0 → I (i + 1) (read a i s .value) (drop (frameLength m) s)) →
+      (n i : ℕ) (a : A) (s : List ℕ) → I i a s → i + n ≤ bound → framesFrom read m after n i a s .fault ≡ 0 →
+      (b : A) × (r : List ℕ) × I (i + n) b r × (framesFrom read m after n i a s ≡ after b r)
+  unfolding framesFrom
+  run-invariant I bound keeps zero i a s h le e = let z : i + 0 ≡ i = omega arith in (a, s, rw z h, refl)
+  run-invariant I bound keeps (suc n) i a s h le e =
+      let next : A → Answer A = λ b. framesFrom read m after n (i + 1) b (drop (frameLength m) s) in
+      let now = then-fine (read a i s) next e in
+      let goes : framesFrom read m after (suc n) i a s ≡ next (read a i s .value) = then-goes (read a i s) next now in
+      let later = run-invariant I bound keeps n (i + 1) (read a i s .value) (drop (frameLength m) s) (keeps i a s h (omega arith) now)
+      (omega arith) (rw goes at e) in
+      let z : i + 1 + n ≡ i + suc n = omega arith in
+      (later .0, later .1, rw z at (later .2), rw goes (later .3))

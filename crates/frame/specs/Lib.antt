@@ -1,0 +1,4 @@
+-- Definitions: the modules of this folder, in the order in which they are read. A reader must believe them.
+pub mod Hex
+pub mod Frame
+pub mod Texts

@@ -1,0 +1,64 @@
+// The frame at the front of a text: whether it is whole, and its bytes.
+use crate::hex;
+use plan::Judged;
+use plan::Refusal;
+ghost use mathlib.Core.Path.{_≡_};
+ghost use lib.ListN.{getD};
+ghost use Rattle.plan.specs.Refusal.{judgedNumber};
+ghost use Rattle.frame.specs.Frame.{byteAt, valueAt, whole};
+ghost use Rattle.frame.specs.Texts.{frameFault};
+
+// Character i of the text, and 0 past its end.
+fn char_at(s: &[u8], i: usize) -> u8
+    ensures { λ r. ⌜ r ≡ getD (now (s .entry)) i 0 ⌝ }
+{
+    if i < s.len() {
+        return s[i];
+    }
+    0
+}
+
+// Byte k of the frame, and 256 where two digits do not stand there.
+fn byte_at(s: &[u8], k: u8) -> u16
+    ensures { λ r. ⌜ r ≡ byteAt (now (s .entry)) k ⌝ }
+{
+    let i = 2 * (k as usize);
+    hex::pair(hex::digit(char_at(s, i)), hex::digit(char_at(s, i + 1)))
+}
+
+// Byte k of a frame that is whole.
+pub fn value_at(s: &[u8], k: u8) -> u8
+    ensures { λ r. ⌜ r ≡ valueAt (now (s .entry)) k ⌝ }
+{
+    (byte_at(s, k) % 256) as u8
+}
+
+// Whether the text begins with a whole frame of this kind that has n bytes, the kind counted.
+pub fn is_whole(s: &[u8], kind: u8, n: u8) -> bool
+    ensures { λ r. ⌜ r ≡ whole kind n (now (s .entry)) ⌝ }
+{
+    if byte_at(s, 0) != kind as u16 {
+        return false;
+    }
+    let mut k: u8 = 0;
+    while k < n {
+        if 256 <= byte_at(s, k) {
+            return false;
+        }
+        k += 1;
+    }
+    char_at(s, 2 * (n as usize)) == 10
+}
+
+// One frame judged: the text's refusal where it is not whole, before that of its values.
+pub fn frame_fault(text: Refusal, whole: bool, values: Refusal, good: bool) -> Judged
+    ensures { λ r. ⌜ judgedNumber r ≡ frameFault text whole values good ⌝ }
+{
+    if !whole {
+        return Judged::Refused(text);
+    }
+    if !good {
+        return Judged::Refused(values);
+    }
+    Judged::Fine
+}

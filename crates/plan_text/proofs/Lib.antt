@@ -1,0 +1,1 @@
+-- Laws: the modules of this folder. Only the checker need believe them.

@@ -1,0 +1,39 @@
+-- Definitions: the text of a plan, and writing it into a lent buffer. A reader must believe this file.
+use mathlib.Core.List.{List, [], _∷_, _++_}
+use Prim.Native.Nat.{ℕ, _/_, _%_}
+use lib.ListN.{length}
+use Rattle.network.specs.Mask.{joinBelow}
+use Rattle.plan.specs.declared.Letter.{Letter}
+use Rattle.plan.specs.declared.Constraint.{Constraint}
+use Rattle.plan.specs.declared.Plan.{Plan}
+use Rattle.plan.specs.Answer.{first, Answer, answered}
+use Rattle.plan.specs.Plan.{letterAt, constraintAt}
+use Rattle.plan.specs.Judge.{planFault}
+use Rattle.frame.specs.Frame.{frameText}
+use Rattle.frame.specs.Texts.{roomFault}
+
+-- 01 head: horizon, points, letters, constraints
+abbrev pub headText : Plan → List ℕ
+headText p = frameText (1 ∷ p .horizon ∷ p .points ∷ p .letters ∷ p .constraints ∷ [])
+
+-- 02 letter: its number, its point, 00 condition or 01 decision
+abbrev pub letterText : ℕ → Letter → List ℕ
+letterText i l = frameText (2 ∷ i ∷ l .point ∷ l .kind ∷ [])
+
+-- 03 constraint: X, Y, d (two bytes, high first), need, true
+abbrev pub constraintText : Constraint → List ℕ
+constraintText c = frameText (3 ∷ c .from ∷ c .to ∷ c .bound / 256 ∷ c .bound % 256 ∷ c .need ∷ c .truth ∷ [])
+
+abbrev pub lettersText : Plan → List ℕ
+lettersText p = joinBelow (p .letters) (λ i. letterText i (letterAt p i))
+
+abbrev pub constraintsText : Plan → List ℕ
+constraintsText p = joinBelow (p .constraints) (λ j. constraintText (constraintAt p j))
+
+-- one 01, then its 02s, then its 03s
+unfoldable pub planText : Plan → List ℕ
+planText p = headText p ++ lettersText p ++ constraintsText p
+
+-- 2, 3, 4, 10; else the text's length
+unfoldable pub writePlan : Plan → List ℕ → Answer ℕ
+writePlan p xs = answered 0 (first (planFault p) (roomFault (planText p) xs)) (length (planText p))

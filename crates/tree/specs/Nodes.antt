@@ -1,0 +1,26 @@
+-- Definitions: a tree in memory, three bytes to a node. A reader must believe this file; nothing else knows where a node's bytes stand.
+use mathlib.Core.Bool.{Bool, _&&_}
+use mathlib.Core.List.{List, [], _∷_}
+use Prim.Native.Nat.{ℕ, _+_, _*_, _%_}
+use lib.Dec.{leb, eqb}
+use lib.ListN.{getD}
+use Rattle.tree.specs.declared.Node.{Node}
+
+-- the most nodes that a tree has, and the bytes that they take
+abbrev pub mostNodes : ℕ
+mostNodes = 191
+
+abbrev pub mostBytes : ℕ
+mostBytes = 573
+
+-- a byte length: a multiple of 3 from 3 to 573
+unfoldable pub legalLength : ℕ → Bool
+legalLength n = eqb (n % 3) 0 && leb 3 n && leb n mostBytes
+
+-- slot, points, choices
+abbrev pub nodeBytes : Node → List ℕ
+nodeBytes v = v .slot ∷ v .points ∷ v .choices ∷ []
+
+-- node k of the bytes; zeros past their end
+abbrev pub nodeAt : List ℕ → ℕ → Node
+nodeAt bs k = record { slot = getD bs (3 * k) 0; points = getD bs (3 * k + 1) 0; choices = getD bs (3 * k + 2) 0 }

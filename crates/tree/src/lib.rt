@@ -1,0 +1,57 @@
+// A tree in memory: its nodes as bytes, three to a node.
+ghost use mathlib.Core.Path.{_≡_};
+ghost use mathlib.Core.Bool.{cond};
+ghost use Prim.Native.Nat.{_+_, _*_};
+ghost use lib.Dec.{leb};
+ghost use lib.ListN.{length, getD};
+ghost use lib.Seq.{sets};
+ghost use Rattle.tree.specs.Nodes.{legalLength, nodeBytes, nodeAt};
+
+// What is done in a slot: the points performed and the choices made, as masks.
+pub struct Node {
+    pub slot: u8,
+    pub points: u8,
+    pub choices: u8,
+}
+
+// Whether a tree can have this many bytes: a multiple of 3 from 3 to 573.
+pub fn legal_length(n: usize) -> bool
+    ensures { λ r. ⌜ r ≡ legalLength n ⌝ }
+{
+    (n % 3 == 0) & (3 <= n) & (n <= 573)
+}
+
+// Byte i, and 0 past the end.
+fn byte_or_zero(bytes: &[u8], i: usize) -> u8
+    ensures { λ r. ⌜ r ≡ getD (now (bytes .entry)) i 0 ⌝ }
+{
+    if i < bytes.len() {
+        return bytes[i];
+    }
+    0
+}
+
+// Node k of the bytes; zeros past their end.
+pub fn node_at(bytes: &[u8], k: u8) -> Node
+    ensures { λ r. ⌜ r ≡ nodeAt (now (bytes .entry)) k ⌝ }
+{
+    let i = 3 * (k as usize);
+    Node {
+        slot: byte_or_zero(bytes, i),
+        points: byte_or_zero(bytes, i + 1),
+        choices: byte_or_zero(bytes, i + 2),
+    }
+}
+
+// Node k stored in the bytes. Where they have no room for it, nothing changes.
+pub fn put_node(bytes: &mut [u8], k: u8, v: Node)
+    ensures { λ r. ⌜ now (bytes .exit) ≡ cond (leb (3 * k + 3) (length (now (bytes .entry)))) (sets (now (bytes .entry)) (3 * k) (nodeBytes v)) (now (bytes .entry)) ⌝ }
+{
+    let i = 3 * (k as usize);
+    if bytes.len() < i + 3 {
+        return;
+    }
+    bytes[i] = v.slot;
+    bytes[i + 1] = v.points;
+    bytes[i + 2] = v.choices;
+}

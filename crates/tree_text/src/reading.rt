@@ -1,0 +1,138 @@
+// Reading a tree text into a lent buffer: first the whole text is judged, then the nodes are stored.
+use crate::TreeRead;
+use frame::reading;
+use plan::Judged;
+use plan::Refusal;
+use tree::Node;
+ghost use mathlib.Core.Path.{_≡_};
+ghost use mathlib.Core.Bool.{true};
+ghost use Prim.Native.Nat.{_+_, _*_, _≤_};
+ghost use lib.ListN.{length, drop};
+ghost use lib.Seq.{sets};
+ghost use Rattle.plan.specs.declared.Refusal.the-variants as refusal;
+ghost use Rattle.plan.specs.Refusal.{judgedNumber};
+ghost use Rattle.plan.specs.Answer.{answered, filled};
+ghost use Rattle.frame.specs.Frame.{frameLength};
+ghost use Rattle.frame.specs.Texts.{framesFrom, atEnd};
+ghost use Rattle.tree_text.specs.TreeText.{treeReadAnswer, readTreeHead, readNode, readNodes, nodeIn, bytesIn, readTree};
+
+// n nodes beside fine.
+fn answered_nodes(answer: Judged, n: u8) -> TreeRead
+    ensures { λ r. ⌜ treeReadAnswer r ≡ answered 0 (judgedNumber answer) n ⌝ }
+{
+    if let Judged::Refused(r) = answer {
+        return TreeRead::Refused(r);
+    }
+    TreeRead::Nodes(n)
+}
+
+fn read_head(s: &[u8]) -> TreeRead
+    ensures { λ r. ⌜ treeReadAnswer r ≡ readTreeHead (now (s .entry)) ⌝ }
+{
+    let n = reading::value_at(s, 1);
+    let good = (1 <= n) & (n <= 191);
+    answered_nodes(
+        reading::frame_fault(
+            Refusal::TreeText,
+            reading::is_whole(s, 4, 2),
+            Refusal::TreeText,
+            good,
+        ),
+        n,
+    )
+}
+
+// Node k of n.
+fn read_node(s: &[u8], n: u8, k: u8) -> TreeRead
+    ensures { λ r. ⌜ treeReadAnswer r ≡ readNode n k (now (s .entry)) ⌝ }
+{
+    answered_nodes(
+        reading::frame_fault(
+            Refusal::TreeText,
+            reading::is_whole(s, 5, 4),
+            Refusal::TreeText,
+            true,
+        ),
+        n,
+    )
+}
+
+// Nothing stands behind the last frame.
+fn read_end(s: &[u8], n: u8) -> TreeRead
+    ensures { λ r. ⌜ treeReadAnswer r ≡ atEnd 0 refusal.TreeText n (now (s .entry)) ⌝ }
+{
+    if s.len() == 0 {
+        return TreeRead::Nodes(n);
+    }
+    TreeRead::Refused(Refusal::TreeText)
+}
+
+// The nodes behind a head that says n, and then the end.
+fn read_behind(s: &[u8], n: u8) -> TreeRead
+    ensures { λ r. ⌜ treeReadAnswer r ≡ framesFrom readNode 4 (atEnd 0 refusal.TreeText) n 0 n (now (s .entry)) ⌝ }
+{
+    let mut rest = s;
+    let mut k: u8 = 0;
+    while k < n {
+        let next = read_node(rest, n, k);
+        let TreeRead::Nodes(_) = next else {
+            return next;
+        };
+        rest = &rest[9..];
+        k += 1;
+    }
+    read_end(rest, n)
+}
+
+// The number of nodes of a text that says a tree.
+fn read_nodes(text: &[u8]) -> TreeRead
+    ensures { λ r. ⌜ treeReadAnswer r ≡ readNodes (now (text .entry)) ⌝ }
+{
+    let head = read_head(text);
+    let TreeRead::Nodes(n) = head else {
+        return head;
+    };
+    read_behind(&text[5..], n)
+}
+
+// The node at the front of s.
+fn node_in(s: &[u8]) -> Node
+    ensures { λ r. ⌜ r ≡ nodeIn (now (s .entry)) ⌝ }
+{
+    Node {
+        slot: reading::value_at(s, 1),
+        points: reading::value_at(s, 2),
+        choices: reading::value_at(s, 3),
+    }
+}
+
+// The n nodes of a tree text.
+fn put_nodes(text: &[u8], n: u8, out: &mut [u8])
+    requires { ⌜ frameLength 2 + frameLength 4 * n ≤ length (now text) ⌝ }
+    requires { ⌜ 3 * n ≤ length (now out) ⌝ }
+    ensures { λ r. ⌜ now (out .exit) ≡ sets (now (out .entry)) 0 (bytesIn n (now (text .entry))) ⌝ }
+{
+    let mut at: usize = 5;
+    let mut k: u8 = 0;
+    while k < n {
+        tree::put_node(out, k, node_in(&text[at..]));
+        at += 9;
+        k += 1;
+    }
+}
+
+// The tree that a text of any bytes and length says, into a buffer of any length, and the number of its nodes; or 10, 5.
+pub fn read_tree(text: &[u8], out: &mut [u8]) -> TreeRead
+    ensures answer { λ r. ⌜ treeReadAnswer r ≡ readTree (now (text .entry)) (now (out .entry)) ⌝ }
+    ensures buffer { λ r. ⌜ now (out .exit) ≡ filled (readTree (now (text .entry)) (now (out .entry)) .fault) (bytesIn (readTree (now (text .entry)) (now (out .entry)) .value) (now (text .entry))) (now (out .entry)) ⌝ }
+{
+    if out.len() < 573 {
+        return TreeRead::Refused(Refusal::Buffer);
+    }
+    let read = read_nodes(text);
+    let TreeRead::Nodes(n) = read else {
+        return read;
+    };
+    put_nodes(text, n, out);
+    read
+}
