@@ -1,43 +1,34 @@
 -- Laws of a frame as the code reads and writes it. Only the checker need believe this file.
-use mathlib.Core.Path.{_≡_, refl}
+use mathlib.Core.Path.{_≡_}
 use mathlib.Core.Bool.{Bool, true, false, and-false}
 use mathlib.Core.List.{List, [], _∷_}
-use Prim.Native.Nat.{ℕ, suc, _+_, _*_, _/_, _%_, _≤_, _<_}
+use Prim.Native.Nat.{ℕ, _+_, _*_, _/_, _%_, _≤_, _<_}
 use native.Mathlib.Omega.{arith}
-use native.Mathlib.Numerals.{add-one}
+use native.Mathlib.Numerals.{add-one, add-two}
+use borrow.Author.Tests.{le-ltb}
 use lib.Dec.{ltb, eqb}
 use lib.ListN.{length, getD, set, drop}
 use lib.Seq.{sets, drop-cons, drop-length}
-use borrow.Author.Tests.{le-ltb}
 use Rattle.network.specs.Mask.{allBelow}
 use Rattle.network.proofs.Booleans.{eqb-no}
 use Rattle.network.proofs.BelowLaws.{all-fails}
 use Rattle.plan.specs.declared.Refusal.{Refusal}
-use Rattle.plan.specs.declared.Judged.the-variants as judged
 use Rattle.plan.specs.Refusal.{refusalNumber}
 use Rattle.plan.specs.Answer.{unless, first}
-use Rattle.plan.proofs.RefusalLaws.{fine-is}
+use Rattle.plan.proofs.RefusalLaws.{some-number}
 use Rattle.frame.specs.Hex.{hexDigit}
 use Rattle.frame.specs.Frame.{frameText, byteAt, whole}
 use Rattle.frame.specs.Texts.{frameFault}
 
 -- ---- a frame judged
 
--- 0 is no refusal's number
-some-number : (r : Refusal) → eqb (refusalNumber r) 0 ≡ false
-some-number r = eqb-no (refusalNumber r) 0 (λ e. let z : _≡_ {A = ℕ} 0 1 = cc (fine-is (judged.Refused r) e) in omega arith)
-
-pub text-fault : (text values : Refusal) (good : Bool) → frameFault text false values good ≡ refusalNumber text
+pub text-fault : (text values : Refusal) {w : Bool} (g : Bool) → w ≡ false → frameFault text w values g ≡ refusalNumber text
 unfolding frameFault unless first
-text-fault text values good = rw (some-number text)
+text-fault text values g e = rw (e, some-number text)
 
-pub values-fault : (text values : Refusal) → frameFault text true values false ≡ refusalNumber values
+pub values-fault : (text values : Refusal) {w g : Bool} → w ≡ true → g ≡ false → frameFault text w values g ≡ refusalNumber values
 unfolding frameFault unless first
-values-fault text values = refl
-
-pub no-fault : (text values : Refusal) → frameFault text true values true ≡ 0
-unfolding frameFault unless first
-no-fault text values = refl
+values-fault text values e f = rw (e, f)
 
 -- ---- a frame read
 
@@ -65,15 +56,12 @@ high-digit b h = let e : b / 16 % 16 ≡ b / 16 = omega arith in rw e
 pub put-two : (xs : List ℕ) (i : ℕ) {h l h′ l′ : ℕ} → h ≡ h′ → l ≡ l′ → set (set xs i h) (i + 1) l ≡ sets xs i (h′ ∷ l′ ∷ [])
 put-two xs i e f = rw (e, f, add-one)
 
-two-more : (i : ℕ) → i + 2 ≡ suc (suc i)
-two-more i = omega arith
-
 module _ (bytes xs : List ℕ) (k i : ℕ) where
   pub put-next :
       k < length bytes →
       sets xs i (frameText (drop k bytes))
       ≡ sets (sets xs i (hexDigit (getD bytes k 0 / 16) ∷ hexDigit (getD bytes k 0 % 16) ∷ [])) (i + 2) (frameText (drop (k + 1) bytes))
-  put-next h = rw (drop-cons bytes k 0 h, two-more, add-one)
+  put-next h = rw (drop-cons bytes k 0 h, add-two, add-one)
 
   pub put-feed : k ≡ length bytes → sets xs i (frameText (drop k bytes)) ≡ set xs i 10
   put-feed e = rw (e, drop-length)

@@ -5,7 +5,7 @@ use mathlib.Core.List.{List, [], _∷_, _++_}
 use Prim.Native.Nat.{ℕ, zero, suc, _≤_, _<_, _+_, _*_, _/_, _%_}
 use native.Mathlib.Omega.{arith}
 use native.Mathlib.Nat.{not-suc-le-zero}
-use lib.Dec.{ltb, eqb}
+use lib.Dec.{ltb, eqb, lit<}
 use lib.ListN.{length, getD, drop}
 use Rattle.network.specs.Mask.{allBelow}
 use Rattle.network.proofs.Booleans.{and-left, and-right, and-make, ltb-yes, ltb-is, eqb-yes, eqb-is}
@@ -18,6 +18,16 @@ use Rattle.frame.proofs.HexLaws.{byte-back, byte-digits}
 -- every entry is a byte
 abbrev pub Bytes : List ℕ → Type 0
 Bytes bs = (k : ℕ) → getD bs k 0 < 256
+
+-- the same as `Bytes`, one by one
+abbrev pub EachByte : List ℕ → Type 0
+EachByte [] = Unit {0}
+EachByte (b ∷ bs) = (b < 256) × EachByte bs
+
+pub bytes : (bs : List ℕ) → EachByte bs → Bytes bs
+bytes [] h k = lit< tt
+bytes (b ∷ bs) h zero = h .0
+bytes (b ∷ bs) h (suc k) = bytes bs (h .1) k
 
 pub bytes-append : (bs cs : List ℕ) → Bytes bs → Bytes cs → Bytes (bs ++ cs)
 bytes-append [] cs h g k = g k
@@ -145,3 +155,12 @@ line-text (suc n) (c ∷ d ∷ s) h f =
 -- a frame that is whole is the text of its bytes
 pub whole-text : (kind n : ℕ) (s : List ℕ) → whole kind n s ≡ true → s ≡ frameText (listed n (valueAt s)) ++ drop (frameLength n) s
 whole-text kind n s e = let w = is-whole kind n s e in line-text n s (w .bytes) (w .feed)
+
+-- a whole frame is the text of its kind and its values
+pub whole-said :
+    (kind n : ℕ) (s : List ℕ) → kind < 256 → whole kind (suc n) s ≡ true →
+    s ≡ frameText (kind ∷ listed n (λ k. valueAt s (suc k))) ++ drop (frameLength (suc n)) s
+unfolding listed
+whole-said kind n s h e =
+    whole-text kind (suc n) s e
+    ∙ ap (λ (b : ℕ). frameText (b ∷ listed n (λ k. valueAt s (suc k))) ++ drop (frameLength (suc n)) s) (whole-kind kind (suc n) s h e)

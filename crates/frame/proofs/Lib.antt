@@ -3,3 +3,5 @@ pub mod HexLaws
 pub mod FrameLaws
 pub mod RunLaws
 pub mod CodeLaws
+pub mod ReadingLaws
+pub mod WritingLaws

@@ -1,7 +1,7 @@
 -- Laws of runs of frames. Only the checker need believe this file.
 use mathlib.Core.Path.{_≡_, refl, sym, ap, _∙_}
 use mathlib.Core.Bool.{Bool, true, false}
-use mathlib.Core.List.{List, [], _++_, append-assoc, append-nil}
+use mathlib.Core.List.{List, [], _∷_, _++_, append-assoc}
 use Prim.Native.Nat.{ℕ, zero, suc, _+_, _-_, _*_, _≤_, _<_}
 use native.Mathlib.Omega.{arith}
 use lib.Dec.{eqb}
@@ -14,14 +14,11 @@ use Rattle.plan.specs.declared.Refusal.{Refusal}
 use Rattle.plan.specs.declared.Judged.the-variants as judged
 use Rattle.plan.specs.Refusal.{refusalNumber}
 use Rattle.plan.specs.Answer.{unless, first, Answer, fine, answered, andThen, filled}
-use Rattle.plan.proofs.RefusalLaws.{fine-is}
+use Rattle.plan.proofs.RefusalLaws.{no-refusal}
 use Rattle.frame.specs.Frame.{frameLength}
-use Rattle.frame.specs.Texts.{frameFault, framesFrom}
+use Rattle.frame.specs.Texts.{frameFault, framesFrom, atEnd}
 
 -- ---- faults
-
-pub no-refusal : (r : Refusal) → refusalNumber r ≡ 0 → ⊥
-no-refusal r e = let f = fine-is (judged.Refused r) e in let z : _≡_ {A = ℕ} 0 1 = cc in omega arith
 
 pub unless-is : (b : Bool) (r : Refusal) → unless b r ≡ 0 → b ≡ true
 unfolding unless
@@ -50,6 +47,9 @@ module _ {A : Type 0} where
   unfolding answered
   answered-fine zeros n a e = rw e
 
+  pub answered-value : (zeros : A) (n : ℕ) (a : A) → n ≡ 0 → answered zeros n a .value ≡ a
+  answered-value zeros n a e = ap (λ (x : Answer A). x .value) (answered-fine zeros n a e)
+
   pub then-goes : (a : Answer A) (next : A → Answer A) → a .fault ≡ 0 → andThen a next ≡ next (a .value)
   unfolding andThen
   then-goes a next e = rw e
@@ -62,6 +62,30 @@ module _ {A : Type 0} where
   pub then-fine : (a : Answer A) (next : A → Answer A) → andThen a next .fault ≡ 0 → a .fault ≡ 0
   then-fine a next e =
       by-test (eqb (a .fault) 0) (eqb-is (a .fault) 0) (λ z. rw (then-stops a next (differs (a .fault) 0 z)) at e)
+
+  -- the answer that reads one frame
+  pub frame-read :
+      (zeros : A) (text values : Refusal) (a : A) {w g : Bool} → w ≡ true → g ≡ true →
+      answered zeros (frameFault text w values g) a ≡ fine a
+  frame-read zeros text values a {w} {g} e f = answered-fine zeros (frameFault text w values g) a (frame-fine text values e f)
+
+  pub frame-read-is :
+      (zeros : A) (text values : Refusal) (w g : Bool) (a : A) → answered zeros (frameFault text w values g) a .fault ≡ 0 →
+      (w ≡ true) × (g ≡ true) × (answered zeros (frameFault text w values g) a ≡ fine a)
+  frame-read-is zeros text values w g a e =
+      let n : frameFault text w values g ≡ 0 = sym (answered-fault zeros (frameFault text w values g) a) ∙ e in
+      let both = frame-fine-is text values w g n in
+      (both .0, both .1, answered-fine zeros (frameFault text w values g) a n)
+
+  pub at-end : (zeros : A) (text : Refusal) (a : A) → atEnd zeros text a [] ≡ fine a
+  unfolding atEnd unless
+  at-end zeros text a = answered-fine zeros 0 a refl
+
+  pub at-end-is : (zeros : A) (text : Refusal) (a : A) (s : List ℕ) → atEnd zeros text a s .fault ≡ 0 → s ≡ []
+  unfolding atEnd answered
+  at-end-is zeros text a [] e = refl
+  at-end-is zeros text a (c ∷ s) e =
+      let z : suc (length s) ≡ 0 = eqb-is (suc (length s)) 0 (unless-is (eqb (suc (length s)) 0) text e) in absurd (omega arith)
 
 -- ---- lent buffers
 

@@ -47,6 +47,11 @@ unfolding allBelow
 all-cong zero f g h = refl
 all-cong (suc n) f g h = rw (h n (omega arith), all-cong n f g (λ i lt. h i (omega arith)))
 
+pub any-cong : (n : ℕ) (f g : ℕ → Bool) → ((i : ℕ) → i < n → f i ≡ g i) → anyBelow n f ≡ anyBelow n g
+unfolding anyBelow
+any-cong zero f g h = refl
+any-cong (suc n) f g h = rw (h n (omega arith), any-cong n f g (λ i lt. h i (omega arith)))
+
 -- ---- one after another, as a loop does (it adds 1)
 
 module _ (f : ℕ → Bool) where

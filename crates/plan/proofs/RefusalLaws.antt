@@ -1,8 +1,12 @@
 -- Laws of the refusals' numbers: each has its own, and 0 is none of them. Only the checker need believe this file.
 use mathlib.Core.Path.{_≡_, refl, sym, ap, _∙_}
+use mathlib.Core.Bool.{false}
 use mathlib.Core.List.{List, [], _∷_}
 use Prim.Native.Nat.{ℕ, zero, suc}
+use native.Mathlib.Omega.{arith}
+use lib.Dec.{eqb}
 use lib.ListN.{getD}
+use Rattle.network.proofs.Booleans.{eqb-no}
 use Rattle.plan.specs.declared.Refusal.{Refusal}
 use Rattle.plan.specs.declared.Refusal.the-variants as refusal
 use Rattle.plan.specs.declared.Judged.{Judged}
@@ -41,3 +45,10 @@ refused-is r f e = sym (back r) ∙ ap judgedBy e ∙ back (judged.Refused f)
 
 pub refusal-one-number : (a b : Refusal) → refusalNumber a ≡ refusalNumber b → a ≡ b
 refusal-one-number a b e = cc (refused-is (judged.Refused a) b e)
+
+-- 0 is no refusal's number
+pub no-refusal : (r : Refusal) → refusalNumber r ≡ 0 → ⊥
+no-refusal r e = let z : _≡_ {A = ℕ} 0 1 = cc (fine-is (judged.Refused r) e) in omega arith
+
+pub some-number : (r : Refusal) → eqb (refusalNumber r) 0 ≡ false
+some-number r = eqb-no (refusalNumber r) 0 (no-refusal r)

@@ -68,7 +68,7 @@ says-among m n = (
 
 -- ---- the head
 
-says-head : (h n l c : ℕ) → (headFine h n l c ≡ true) ↔ ((((((h ≤ 63) × (1 ≤ n)) × (n ≤ 8)) × (l ≤ 6)) × (l ≤ n)) × (c ≤ 64))
+pub says-head : (h n l c : ℕ) → (headFine h n l c ≡ true) ↔ ((((((h ≤ 63) × (1 ≤ n)) × (n ≤ 8)) × (l ≤ 6)) × (l ≤ n)) × (c ≤ 64))
 unfolding headFine
 says-head h n l c = says-le h 63 also says-le 1 n also says-le n 8 also says-le l 6 also says-le l n also says-le c 64
 
@@ -190,7 +190,7 @@ module _ (p : Plan) where
     λ h. constraints-fault p (h .0) (h .1) (h .2),
   )
 
-  no-fault-is : planFault p ≡ 0 → (headOf p ≡ true) × (lettersFine p ≡ true) × (constraintsFine p ≡ true)
+  pub no-fault-is : planFault p ≡ 0 → (headOf p ≡ true) × (lettersFine p ≡ true) × (constraintsFine p ≡ true)
   no-fault-is e =
       by-fault
       (λ h. absurd (omega (arith, head-fault p h)))

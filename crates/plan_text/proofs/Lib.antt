@@ -1,1 +1,9 @@
--- Laws: the modules of this folder. Only the checker need believe them.
+-- The laws and theorems of the crate. Only the checker need believe them; PlanTextTheorems.antt has the statements to read.
+pub mod LengthLaws
+pub mod FilledLaws
+pub mod EntryLaws
+pub mod ReadBackLaws
+pub mod OneTextLaws
+pub mod WriteLaws
+pub mod WrittenLaws
+pub mod PlanTextTheorems

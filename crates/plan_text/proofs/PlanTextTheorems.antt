@@ -1,25 +1,41 @@
 -- Theorems on plan texts: they read back exactly, and each plan has one text only. Read the statements; only the checker need believe the
 -- proofs.
-use mathlib.Core.Path.{_≡_}
+use mathlib.Core.Path.{_≡_, ap, _∙_}
 use mathlib.Core.Logic.{_↔_}
 use mathlib.Core.List.{List}
 use Prim.Native.Nat.{ℕ, _≤_}
+use native.Mathlib.Omega.{arith}
 use lib.ListN.{length, take}
 use Rattle.plan.specs.declared.Plan.{Plan}
 use Rattle.plan.specs.Answer.{fine, filled}
 use Rattle.plan.specs.WellFormed.{WellFormed}
+use Rattle.frame.proofs.RunLaws.{filled-front}
 use Rattle.plan_text.specs.PlanText.{planText, writePlan}
 use Rattle.plan_text.specs.ReadPlan.{readPlan}
+use Rattle.plan_text.proofs.LengthLaws.{plan-length, longest, longest-fine}
+use Rattle.plan_text.proofs.ReadBackLaws.{read-back}
+use Rattle.plan_text.proofs.OneTextLaws.{one-text}
+use Rattle.plan_text.proofs.WrittenLaws.{written-fine}
 
 -- A text reads as a plan exactly where it is that plan's text and the plan is well formed. (A record's arrays have six and 64 places by
 -- their types.)
-pub read-exactly : (t : List ℕ) (p : Plan) → (readPlan t ≡ fine p) ↔ ((t ≡ planText p) × WellFormed p × (length (p .letter) ≡ 6) × (length (p .constraint) ≡ 64))
+pub read-exactly :
+    (t : List ℕ) (p : Plan) → (readPlan t ≡ fine p)
+    ↔ ((t ≡ planText p) × WellFormed p × (length (p .letter) ≡ 6) × (length (p .constraint) ≡ 64))
+read-exactly t p = (one-text t p, λ h. ap readPlan (h .0) ∙ read-back p (h .1) (h .2) (h .3))
 
 -- what was written reads back, from the buffer as the writing left it
-pub written-reads-back : (p : Plan) → WellFormed p → length (p .letter) ≡ 6 → length (p .constraint) ≡ 64 → (xs : List ℕ) → length (planText p) ≤ length xs
-    → (writePlan p xs ≡ fine (length (planText p))) × (readPlan (take (writePlan p xs .value) (filled (writePlan p xs .fault) (planText p) xs)) ≡ fine p)
+pub written-reads-back :
+    (p : Plan) → WellFormed p → length (p .letter) ≡ 6 → length (p .constraint) ≡ 64 → (xs : List ℕ) →
+    length (planText p) ≤ length xs → (writePlan p xs ≡ fine (length (planText p)))
+    × (readPlan (take (writePlan p xs .value) (filled (writePlan p xs .fault) (planText p) xs)) ≡ fine p)
+written-reads-back p wf six sixty-four xs room =
+    let written = written-fine p xs wf room in
+    (written, rw (written, filled-front (planText p) xs) (read-back p wf six sixty-four))
 
 -- the longest plan text has 1,025 bytes
 pub at-most-1025 : (p : Plan) → WellFormed p → length (planText p) ≤ 1025
+at-most-1025 p wf = omega (arith, plan-length p, wf .letters, wf .constraints)
 
-pub reached-1025 : Σ Plan (λ p. WellFormed p × (length (planText p) ≡ 1025))
+pub reached-1025 : (p : Plan) × WellFormed p × (length (planText p) ≡ 1025)
+reached-1025 = (longest, longest-fine, plan-length longest)

@@ -35,15 +35,9 @@ fn read_head(s: &[u8]) -> PlanRead
 {
     let p = entries::head_in(s);
     let good = judge::head_fine(p.horizon, p.points, p.letters, p.constraints);
-    answered_plan(
-        reading::frame_fault(
-            Refusal::PlanText,
-            reading::is_whole(s, 1, 5),
-            Refusal::Head,
-            good,
-        ),
-        p,
-    )
+    let whole = reading::is_whole(s, 1, 5);
+    let answer = reading::frame_fault(Refusal::PlanText, whole, Refusal::Head, good);
+    answered_plan(answer, p)
 }
 
 // Letter i into the plan that was read so far.
@@ -52,12 +46,8 @@ fn read_letter(s: &[u8], plan: Plan, i: u8) -> PlanRead
 {
     let l = entries::letter_in(s);
     let good = (reading::value_at(s, 1) == i) & judge::letter_fine(plan, i, l);
-    let answer = reading::frame_fault(
-        Refusal::PlanText,
-        reading::is_whole(s, 2, 4),
-        Refusal::Letters,
-        good,
-    );
+    let whole = reading::is_whole(s, 2, 4);
+    let answer = reading::frame_fault(Refusal::PlanText, whole, Refusal::Letters, good);
     answered_plan(answer, entries::with_letter(plan, i, l))
 }
 
@@ -67,12 +57,8 @@ fn read_constraint(s: &[u8], plan: Plan, j: u8) -> PlanRead
 {
     let c = entries::constraint_in(s);
     let good = judge::constraint_fine(plan, c);
-    let answer = reading::frame_fault(
-        Refusal::PlanText,
-        reading::is_whole(s, 3, 7),
-        Refusal::Constraints,
-        good,
-    );
+    let whole = reading::is_whole(s, 3, 7);
+    let answer = reading::frame_fault(Refusal::PlanText, whole, Refusal::Constraints, good);
     answered_plan(answer, entries::with_constraint(plan, j, c))
 }
 

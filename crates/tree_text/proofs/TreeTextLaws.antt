@@ -7,7 +7,7 @@ use Prim.Native.Nat.{ℕ, zero, suc, _+_, _*_, _/_, _≤_, _<_}
 use native.Mathlib.Omega.{arith}
 use native.Mathlib.Nat.{not-suc-le-zero}
 use native.Mathlib.Decide.{decLt}
-use lib.Dec.{leb, eqb}
+use lib.Dec.{leb, lit<}
 use lib.ListN.{length, getD, drop, length-append}
 use lib.Seq.{drop-drop}
 use Rattle.network.specs.Mask.{joinBelow}
@@ -18,8 +18,8 @@ use Rattle.plan.specs.Answer.{unless, first, Answer, fine, answered}
 use Rattle.plan.specs.Plan.{listed}
 use Rattle.frame.specs.Frame.{frameLength, frameText, valueAt, whole}
 use Rattle.frame.specs.Texts.{frameFault, framesFrom, atEnd}
-use Rattle.frame.proofs.FrameLaws.{Bytes, bytes-append, value-back, whole-back, frame-behind, whole-text, whole-kind}
-use Rattle.frame.proofs.RunLaws.{unless-is, frame-fine-is, frame-fine, answered-fine, then-goes, then-fine, run-back, run-invariant}
+use Rattle.frame.proofs.FrameLaws.{Bytes, bytes, bytes-append, value-back, whole-back, frame-behind, whole-said}
+use Rattle.frame.proofs.RunLaws.{frame-read, frame-read-is, at-end, at-end-is, then-goes, then-fine, run-back, run-invariant}
 use Rattle.tree.specs.declared.Node.{Node}
 use Rattle.tree.specs.Nodes.{mostNodes, mostBytes, legalLength, nodeBytes, nodeAt}
 use Rattle.tree.proofs.NodeLaws.{nodes-length, node-of-bytes, bytes-of-nodes, legal-is, legal-make}
@@ -45,25 +45,19 @@ pub record Reads (n : ℕ) (t : List ℕ) : Type 0 where
 
 head-text : (t : List ℕ) → whole 4 2 t ≡ true → t ≡ treeHeadText (valueAt t 1) ++ drop (frameLength 2) t
 unfolding listed
-head-text t w =
-    whole-text 4 2 t w
-    ∙ ap (λ (b : ℕ). frameText (b ∷ valueAt t 1 ∷ []) ++ drop (frameLength 2) t) (whole-kind 4 2 t (omega arith) w)
+head-text t w = whole-said 4 1 t (lit< tt) w
 
 node-text : (s : List ℕ) → whole 5 4 s ≡ true → s ≡ nodeText (nodeIn s) ++ drop (frameLength 4) s
 unfolding listed
-node-text s w =
-    whole-text 5 4 s w
-    ∙ ap (λ (b : ℕ). frameText (b ∷ nodeBytes (nodeIn s)) ++ drop (frameLength 4) s) (whole-kind 5 4 s (omega arith) w)
+node-text s w = whole-said 5 3 s (lit< tt) w
 
-node-fine : (n k : ℕ) (s : List ℕ) → readNode n k s .fault ≡ 0 → (whole 5 4 s ≡ true) × (readNode n k s .value ≡ n)
-unfolding readNode answered
-node-fine n k s e = (frame-fine-is refusal.TreeText refusal.TreeText (whole 5 4 s) true e .0, rw e)
+pub node-fine : (n k : ℕ) (s : List ℕ) → readNode n k s .fault ≡ 0 → (whole 5 4 s ≡ true) × (readNode n k s ≡ fine n)
+unfolding readNode
+node-fine n k s e = let (w, _, is) = frame-read-is 0 refusal.TreeText refusal.TreeText (whole 5 4 s) true n e in (w, is)
 
 end-fine : (n : ℕ) (s : List ℕ) → atEnd 0 refusal.TreeText n s .fault ≡ 0 → (s ≡ []) × (atEnd 0 refusal.TreeText n s ≡ fine n)
-unfolding atEnd answered unless
-end-fine n [] e = (refl, refl)
-end-fine n (c ∷ s) e =
-    absurd (let z = eqb-is (length (c ∷ s)) 0 (unless-is (eqb (length (c ∷ s)) 0) refusal.TreeText e) in omega arith)
+end-fine n s e =
+    let z = at-end-is 0 refusal.TreeText n s e in (z, rw z (at-end 0 refusal.TreeText n))
 
 step-place : (k : ℕ) (t : List ℕ) → drop (frameLength 4) (drop (place k) t) ≡ drop (place (k + 1)) t
 step-place k t =
@@ -81,7 +75,7 @@ one-more : (n : ℕ) (t : List ℕ) (k a : ℕ) (s : List ℕ) → SoFar n t k a
 one-more n t k a s f e =
     let w = node-fine a k s e in
     record {
-      count = w .1 ∙ f .count;
+      count = ap (λ (x : Answer ℕ). x .value) (w .1) ∙ f .count;
       rest = ap (drop (frameLength 4)) (f .rest) ∙ step-place k t;
       nodes = λ j lt.
           by-cases (decLt j k) (f .nodes j)
@@ -103,15 +97,11 @@ all-nodes n t e =
 
 head-fine-is : (t : List ℕ) → readTreeHead t .fault ≡ 0 →
     (whole 4 2 t ≡ true) × (1 ≤ valueAt t 1) × (valueAt t 1 ≤ mostNodes) × (readTreeHead t ≡ fine (valueAt t 1))
-unfolding readTreeHead answered
+unfolding readTreeHead
 head-fine-is t e =
     let n = valueAt t 1 in
-    let f = frame-fine-is refusal.TreeText refusal.TreeText (whole 4 2 t) (leb 1 n && leb n mostNodes) e in (
-      f .0,
-      leb-is 1 n (and-left (leb 1 n) (leb n mostNodes) (f .1)),
-      leb-is n mostNodes (and-right (leb 1 n) (leb n mostNodes) (f .1)),
-      answered-fine 0 _ n e,
-    )
+    let (w, good, is) = frame-read-is 0 refusal.TreeText refusal.TreeText (whole 4 2 t) (leb 1 n && leb n mostNodes) n e in
+    (w, leb-is 1 n (and-left (leb 1 n) (leb n mostNodes) good), leb-is n mostNodes (and-right (leb 1 n) (leb n mostNodes) good), is)
 
 pub reads : (t : List ℕ) → readNodes t .fault ≡ 0 → Reads (valueAt t 1) t
 unfolding readNodes
@@ -161,27 +151,19 @@ reads-legal n t r = rw (bytes-length n t) (legal-make n (r .some) (r .most))
 -- ---- a text that was written
 
 node-bytes : (bs : List ℕ) (k : ℕ) → Bytes bs → Bytes (5 ∷ nodeBytes (nodeAt bs k))
-node-bytes bs k h zero = omega arith
-node-bytes bs k h (suc zero) = h (3 * k)
-node-bytes bs k h (suc (suc zero)) = h (3 * k + 1)
-node-bytes bs k h (suc (suc (suc zero))) = h (3 * k + 2)
-node-bytes bs k h (suc (suc (suc (suc i)))) = omega arith
+node-bytes bs k h = bytes (5 ∷ nodeBytes (nodeAt bs k)) (lit< tt, (h (3 * k), (h (3 * k + 1), (h (3 * k + 2), tt))))
 
 head-bytes : (n : ℕ) → n < 256 → Bytes (4 ∷ n ∷ [])
-head-bytes n h zero = omega arith
-head-bytes n h (suc zero) = h
-head-bytes n h (suc (suc i)) = omega arith
+head-bytes n h = bytes (4 ∷ n ∷ []) (lit< tt, (h, tt))
 
-module _ (bs : List ℕ) (bytes : Bytes bs) where
+module _ (bs : List ℕ) (all : Bytes bs) where
   -- the texts of the nodes, and what is read from them
   abbrev piece : ℕ → List ℕ
   piece k = nodeText (nodeAt bs k)
 
   node-back : (n k : ℕ) (r : List ℕ) → readNode n k (piece k ++ r) ≡ fine n
   unfolding readNode
-  node-back n k r =
-      answered-fine 0 _ n
-      (frame-fine refusal.TreeText refusal.TreeText (whole-back 5 (nodeBytes (nodeAt bs k)) r (node-bytes bs k bytes)) refl)
+  node-back n k r = frame-read 0 refusal.TreeText refusal.TreeText n (whole-back 5 (nodeBytes (nodeAt bs k)) r (node-bytes bs k all)) refl
 
   head-back : (n : ℕ) (r : List ℕ) → 1 ≤ n → n ≤ mostNodes → readTreeHead (treeHeadText n ++ r) ≡ fine n
   unfolding readTreeHead
@@ -189,15 +171,14 @@ module _ (bs : List ℕ) (bytes : Bytes bs) where
       let b = head-bytes n (omega arith) in
       let v : valueAt (treeHeadText n ++ r) 1 ≡ n = value-back (4 ∷ n ∷ []) r b 1 (omega arith) in
       rw v
-      (answered-fine 0 _ n
-      (frame-fine refusal.TreeText refusal.TreeText (whole-back 4 (n ∷ []) r b) (and-make (leb-yes 1 n s) (leb-yes n mostNodes m))))
+      (frame-read 0 refusal.TreeText refusal.TreeText n (whole-back 4 (n ∷ []) r b) (and-make (leb-yes 1 n s) (leb-yes n mostNodes m)))
 
   -- the nodes and nothing behind them
   behind-back : (n : ℕ) → behind n 0 n (joinBelow n piece) ≡ fine n
-  unfolding atEnd answered unless
   behind-back n =
       ap (behind n 0 n) (sym (append-nil (joinBelow n piece)))
       ∙ run-back readNode 4 (atEnd 0 refusal.TreeText) n (λ k. n) piece [] (λ k lt r. node-back n k r) (λ k lt. refl)
+      ∙ at-end 0 refusal.TreeText n
 
   pub counts-back : legalLength (length bs) ≡ true → readNodes (treeText bs) ≡ fine (length bs / 3)
   unfolding readNodes treeText
@@ -217,7 +198,7 @@ module _ (bs : List ℕ) (bytes : Bytes bs) where
       sym (drop-drop (frameLength 4 * k) (frameLength 2) (treeHeadText n ++ joinBelow n piece)) ∙ d .1
       in
       let v : (i : ℕ) → i < 4 → valueAt (piece k ++ d .0) i ≡ getD (5 ∷ nodeBytes (nodeAt bs k)) i 0 =
-      value-back (5 ∷ nodeBytes (nodeAt bs k)) (d .0) (node-bytes bs k bytes)
+      value-back (5 ∷ nodeBytes (nodeAt bs k)) (d .0) (node-bytes bs k all)
       in
       ap nodeIn e ∙ rw (v 1 (omega arith), v 2 (omega arith), v 3 (omega arith))
 
@@ -254,14 +235,8 @@ value-byte s k = omega arith
 
 pub bytes-in-bytes : (n : ℕ) (t : List ℕ) → Bytes (bytesIn n t)
 unfolding joinBelow
-bytes-in-bytes zero t i = omega arith
-bytes-in-bytes (suc n) t i = bytes-append (bytesIn n t) (nodeBytes (nodeIn (drop (place n) t))) (bytes-in-bytes n t) last i
-  where
-    s : List ℕ
-    s = drop (place n) t
-
-    last : Bytes (nodeBytes (nodeIn s))
-    last zero = value-byte s 1
-    last (suc zero) = value-byte s 2
-    last (suc (suc zero)) = value-byte s 3
-    last (suc (suc (suc j))) = omega arith
+bytes-in-bytes zero t = λ i. lit< tt
+bytes-in-bytes (suc n) t =
+    let s = drop (place n) t in
+    bytes-append (bytesIn n t) (nodeBytes (nodeIn s)) (bytes-in-bytes n t)
+    (bytes (nodeBytes (nodeIn s)) (value-byte s 1, (value-byte s 2, (value-byte s 3, tt))))

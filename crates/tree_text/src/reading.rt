@@ -31,30 +31,18 @@ fn read_head(s: &[u8]) -> TreeRead
 {
     let n = reading::value_at(s, 1);
     let good = (1 <= n) & (n <= 191);
-    answered_nodes(
-        reading::frame_fault(
-            Refusal::TreeText,
-            reading::is_whole(s, 4, 2),
-            Refusal::TreeText,
-            good,
-        ),
-        n,
-    )
+    let whole = reading::is_whole(s, 4, 2);
+    let answer = reading::frame_fault(Refusal::TreeText, whole, Refusal::TreeText, good);
+    answered_nodes(answer, n)
 }
 
 // Node k of n.
 fn read_node(s: &[u8], n: u8, k: u8) -> TreeRead
     ensures { λ r. ⌜ treeReadAnswer r ≡ readNode n k (now (s .entry)) ⌝ }
 {
-    answered_nodes(
-        reading::frame_fault(
-            Refusal::TreeText,
-            reading::is_whole(s, 5, 4),
-            Refusal::TreeText,
-            true,
-        ),
-        n,
-    )
+    let whole = reading::is_whole(s, 5, 4);
+    let answer = reading::frame_fault(Refusal::TreeText, whole, Refusal::TreeText, true);
+    answered_nodes(answer, n)
 }
 
 // Nothing stands behind the last frame.
@@ -106,15 +94,15 @@ fn node_in(s: &[u8]) -> Node
     }
 }
 
-// The n nodes of a tree text.
-fn put_nodes(text: &[u8], n: u8, out: &mut [u8])
-    requires { ⌜ frameLength 2 + frameLength 4 * n ≤ length (now text) ⌝ }
-    requires { ⌜ 3 * n ≤ length (now out) ⌝ }
-    ensures { λ r. ⌜ now (out .exit) ≡ sets (now (out .entry)) 0 (bytesIn n (now (text .entry))) ⌝ }
+// The nodes of a tree text that has this many.
+fn put_nodes(text: &[u8], count: u8, out: &mut [u8])
+    requires { ⌜ frameLength 2 + frameLength 4 * count ≤ length (now text) ⌝ }
+    requires { ⌜ 3 * count ≤ length (now out) ⌝ }
+    ensures { λ r. ⌜ now (out .exit) ≡ sets (now (out .entry)) 0 (bytesIn count (now (text .entry))) ⌝ }
 {
     let mut at: usize = 5;
     let mut k: u8 = 0;
-    while k < n {
+    while k < count {
         tree::put_node(out, k, node_in(&text[at..]));
         at += 9;
         k += 1;

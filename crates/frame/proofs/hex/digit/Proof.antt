@@ -1,6 +1,6 @@
 -- By cases of the two tests. Only the checker need believe this file.
-use borrow.Author.Tests.{leb-true}
 use native.Mathlib.Omega.{arith}
+use borrow.Author.Tests.{leb-true}
 use Rattle.network.proofs.Booleans.{and-left}
 use Rattle.frame.specs.Hex.{digitOf}
 use Rattle.frame.proofs.hex.digit.Statement.{statement}

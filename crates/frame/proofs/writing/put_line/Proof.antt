@@ -1,8 +1,7 @@
 -- The invariant: what is left to store from here makes the whole frame. Only the checker need believe this file.
 use denote.Ref.{now}
-use mathlib.Core.Path.{_≡_, sym, _∙_, ap}
-use mathlib.Core.List.{List}
-use Prim.Native.Nat.{ℕ, _+_, _*_, _-_, _≤_}
+use mathlib.Core.Path.{_≡_, sym, _∙_}
+use Prim.Native.Nat.{_+_, _*_, _-_, _≤_}
 use borrow.Author.Needs.{needs}
 use lib.ListN.{length, drop}
 use lib.Seq.{sets}
@@ -45,7 +44,7 @@ loop-again c =
       search needs,
       search needs,
       c .before .before .put-byte .kept .0 ∙ l .inv .2,
-      l .inv .3 ∙ put-next b (l .out) (l .k) (l .i) (search needs) ∙ sym (ap (λ (xs : List ℕ). sets xs (l .i + 2) (frameText (drop (l .k + 1) b))) e),
+      rw e (l .inv .3 ∙ put-next b (l .out) (l .k) (l .i) (search needs)),
     )
 
 slice-write-out : tie.Need-slice-write-out Inv-loop μ-loop

@@ -1,0 +1,33 @@
+-- There is room for the frame. Only the checker need believe this file.
+use denote.Ref.{now}
+use Prim.Native.Nat.{_+_}
+use borrow.Author.Needs.{needs}
+use borrow.Author.Tests.{le-leb}
+use lib.ListN.{length}
+use Rattle.plan_text.proofs.writing.put_constraint.Statement.{statement}
+use Rattle.plan_text.proofs.writing.put_constraint.Tie as tie
+
+cast-high : tie.Need-cast-high
+cast-high c = search needs
+
+cast-low : tie.Need-cast-low
+cast-low c = search needs
+
+slice-aggregate-put-frame : tie.Need-slice-aggregate-put-frame
+slice-aggregate-put-frame c = search needs
+
+put-frame-requires : tie.Need-put-frame-requires
+put-frame-requires c κs = search needs
+
+same-length : tie.Need-same-length
+same-length c = search needs
+
+returns : tie.Need-returns
+returns c =
+    let a = c .before .before .before .before .before .before .before .before .args in
+    rw (le-leb (a .at + 15) (length (now (a .out))) (search needs)) at (c .before .before .put-frame .ensures)
+
+pub put-constraint-spec : {M : Type 1} → statement M
+put-constraint-spec =
+    tie.close
+    (tie.spec cast-high cast-low slice-aggregate-put-frame put-frame-requires same-length returns)

@@ -1,0 +1,37 @@
+-- By what its calls promise. Only the checker need believe this file.
+use Rattle.tree_text.specs.TreeText.{readTreeHead}
+use borrow.Author.Needs.{needs}
+use Rattle.tree_text.proofs.reading.read_head.Statement.{statement}
+use Rattle.tree_text.proofs.reading.read_head.Tie as tie
+use Rattle.tree_text.proofs.reading.read_head.Reads as reads
+use Rattle.tree_text.proofs.reading.read_head.Lts as lts
+use Rattle.frame.proofs.reading.frame_fault.Reads as frame-fault-reads
+use Rattle.frame.proofs.reading.is_whole.Reads as is-whole-reads
+use Rattle.frame.proofs.reading.value_at.Reads as value-at-reads
+use Rattle.tree_text.proofs.reading.answered_nodes.Reads as answered-nodes-reads
+
+value-at-requires : tie.Need-value-at-requires
+value-at-requires c κs = search needs
+
+is-whole-requires : tie.Need-is-whole-requires
+is-whole-requires c κs = search needs
+
+frame-fault-requires : tie.Need-frame-fault-requires
+frame-fault-requires c κs = search needs
+
+answered-nodes-requires : tie.Need-answered-nodes-requires
+answered-nodes-requires c κs = search needs
+
+returns : tie.Need-returns
+unfolding readTreeHead
+returns c = cc
+
+pub read-head-spec : {M : Type 1} → statement M
+read-head-spec =
+    tie.close
+    (tie.spec
+    value-at-requires
+    is-whole-requires
+    frame-fault-requires
+    answered-nodes-requires
+    returns)
