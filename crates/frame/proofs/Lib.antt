@@ -1,7 +1,9 @@
--- Laws: the modules of this folder. Only the checker need believe them.
+-- The laws of the crate. Only the checker need believe them.
 pub mod HexLaws
 pub mod FrameLaws
 pub mod RunLaws
 pub mod CodeLaws
 pub mod ReadingLaws
 pub mod WritingLaws
+pub mod Characters
+pub mod Cases

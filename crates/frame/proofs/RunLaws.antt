@@ -36,6 +36,16 @@ pub frame-fine : (text values : Refusal) {w g : Bool} → w ≡ true → g ≡ t
 unfolding frameFault first unless
 frame-fine text values e f = rw (e, f)
 
+-- a frame's fault is one of its two refusals'
+pub frame-fault-of :
+    (P : ℕ → Type 0) (text values : Refusal) (w g : Bool) → P 0 → P (refusalNumber text) → P (refusalNumber values) →
+    P (frameFault text w values g)
+unfolding frameFault first unless
+frame-fault-of P text values true true none t v = none
+frame-fault-of P text values true false none t v = v
+frame-fault-of P text values false g none t v =
+    by-test (eqb (refusalNumber text) 0) (λ z. absurd (no-refusal text (eqb-is (refusalNumber text) 0 z))) (λ z. rw z t)
+
 -- ---- answers
 
 module _ {A : Type 0} where
@@ -49,6 +59,19 @@ module _ {A : Type 0} where
 
   pub answered-value : (zeros : A) (n : ℕ) (a : A) → n ≡ 0 → answered zeros n a .value ≡ a
   answered-value zeros n a e = ap (λ (x : Answer A). x .value) (answered-fine zeros n a e)
+
+  -- beside a fault the value's place is all zero
+  abbrev pub ZeroBeside : A → Answer A → Type 0
+  ZeroBeside zeros x = ¬ (x .fault ≡ 0) → x .value ≡ zeros
+
+  pub answered-zero : (zeros : A) (n : ℕ) (a : A) → ZeroBeside zeros (answered zeros n a)
+  unfolding answered
+  answered-zero zeros n a ne = rw (eqb-no n 0 ne)
+
+  -- what each of two answers has, one after the other has
+  pub then-each : (P : Answer A → Type 0) (a : Answer A) (next : A → Answer A) → P a → ((b : A) → P (next b)) → P (andThen a next)
+  unfolding andThen
+  then-each P a next now later = by-test (eqb (a .fault) 0) (λ z. rw z (later (a .value))) (λ z. rw z now)
 
   pub then-goes : (a : Answer A) (next : A → Answer A) → a .fault ≡ 0 → andThen a next ≡ next (a .value)
   unfolding andThen
@@ -150,3 +173,12 @@ module _ {A : Type 0} (read : A → ℕ → List ℕ → Answer A) (m : ℕ) (af
       (omega arith) (rw goes at e) in
       let z : i + 1 + n ≡ i + suc n = omega arith in
       (later .0, later .1, rw z at (later .2), rw goes (later .3))
+
+  -- what each frame's answer has and what follows them has, the run's answer has
+  pub run-each :
+      (P : Answer A → Type 0) → ((a : A) (i : ℕ) (s : List ℕ) → P (read a i s)) → ((a : A) (s : List ℕ) → P (after a s)) →
+      (n i : ℕ) (a : A) (s : List ℕ) → P (framesFrom read m after n i a s)
+  unfolding framesFrom
+  run-each P one last zero i a s = last a s
+  run-each P one last (suc n) i a s =
+      then-each P (read a i s) _ (one a i s) (λ b. run-each P one last n (i + 1) b (drop (frameLength m) s))

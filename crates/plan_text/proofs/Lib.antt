@@ -6,4 +6,6 @@ pub mod ReadBackLaws
 pub mod OneTextLaws
 pub mod WriteLaws
 pub mod WrittenLaws
+pub mod RefusedLaws
+pub mod Cases
 pub mod PlanTextTheorems

@@ -8,6 +8,7 @@ use native.Mathlib.Omega.{arith}
 use lib.ListN.{length, take}
 use Rattle.plan.specs.declared.Plan.{Plan}
 use Rattle.plan.specs.Answer.{fine, filled}
+use Rattle.plan.specs.Plan.{zeroPlan}
 use Rattle.plan.specs.WellFormed.{WellFormed}
 use Rattle.frame.proofs.RunLaws.{filled-front}
 use Rattle.plan_text.specs.PlanText.{planText, writePlan}
@@ -15,6 +16,7 @@ use Rattle.plan_text.specs.ReadPlan.{readPlan}
 use Rattle.plan_text.proofs.LengthLaws.{plan-length, longest, longest-fine}
 use Rattle.plan_text.proofs.ReadBackLaws.{read-back}
 use Rattle.plan_text.proofs.OneTextLaws.{one-text}
+use Rattle.plan_text.proofs.RefusedLaws.{refused}
 use Rattle.plan_text.proofs.WrittenLaws.{written-fine}
 
 -- A text reads as a plan exactly where it is that plan's text and the plan is well formed. (A record's arrays have six and 64 places by
@@ -23,6 +25,10 @@ pub read-exactly :
     (t : List ℕ) (p : Plan) → (readPlan t ≡ fine p)
     ↔ ((t ≡ planText p) × WellFormed p × (length (p .letter) ≡ 6) × (length (p .constraint) ≡ 64))
 read-exactly t p = (one-text t p, λ h. ap readPlan (h .0) ∙ read-back p (h .1) (h .2) (h .3))
+
+-- a text that is refused is refused with 1, 2, 3 or 4, and the plan's place is all zero
+pub refused-zero : (t : List ℕ) → ¬ (readPlan t .fault ≡ 0) → (readPlan t .fault ≤ 4) × (readPlan t .value ≡ zeroPlan)
+refused-zero t ne = let (number, zeros) = refused t in (number, zeros ne)
 
 -- what was written reads back, from the buffer as the writing left it
 pub written-reads-back :

@@ -2,3 +2,4 @@
 pub mod TreeTextLaws
 pub mod CodeLaws
 pub mod TreeTextTheorems
+pub mod Cases

@@ -1,25 +1,26 @@
 -- Laws of tree texts: what reads is a text of bytes, and such a text reads back. Only the checker need believe this file.
 use mathlib.Core.Path.{_≡_, refl, sym, ap, _∙_}
-use mathlib.Core.Logic.{by-cases}
-use mathlib.Core.Bool.{true, _&&_}
+use mathlib.Core.Logic.{by-cases, _⊎_, inl, inr}
+use mathlib.Core.Bool.{Bool, true, false, _&&_}
 use mathlib.Core.List.{List, [], _∷_, _++_, append-assoc, append-nil}
 use Prim.Native.Nat.{ℕ, zero, suc, _+_, _*_, _/_, _≤_, _<_}
 use native.Mathlib.Omega.{arith}
 use native.Mathlib.Nat.{not-suc-le-zero}
 use native.Mathlib.Decide.{decLt}
-use lib.Dec.{leb, lit<}
+use lib.Dec.{leb, eqb, lit<}
 use lib.ListN.{length, getD, drop, length-append}
 use lib.Seq.{drop-drop}
 use Rattle.network.specs.Mask.{joinBelow}
 use Rattle.network.proofs.Booleans.{and-left, and-right, and-make, leb-yes, leb-is, eqb-is}
 use Rattle.network.proofs.JoinLaws.{join-cong, join-length, drop-to-piece}
 use Rattle.plan.specs.declared.Refusal.the-variants as refusal
-use Rattle.plan.specs.Answer.{unless, first, Answer, fine, answered}
+use Rattle.plan.specs.Refusal.{refusalNumber}
+use Rattle.plan.specs.Answer.{unless, first, Answer, fine, refused, answered}
 use Rattle.plan.specs.Plan.{listed}
 use Rattle.frame.specs.Frame.{frameLength, frameText, valueAt, whole}
 use Rattle.frame.specs.Texts.{frameFault, framesFrom, atEnd}
 use Rattle.frame.proofs.FrameLaws.{Bytes, bytes, bytes-append, value-back, whole-back, frame-behind, whole-said}
-use Rattle.frame.proofs.RunLaws.{frame-read, frame-read-is, at-end, at-end-is, then-goes, then-fine, run-back, run-invariant}
+use Rattle.frame.proofs.RunLaws.{frame-fault-of, then-each, run-each, frame-read, frame-read-is, at-end, at-end-is, then-goes, then-fine, run-back, run-invariant}
 use Rattle.tree.specs.declared.Node.{Node}
 use Rattle.tree.specs.Nodes.{mostNodes, mostBytes, legalLength, nodeBytes, nodeAt}
 use Rattle.tree.proofs.NodeLaws.{nodes-length, node-of-bytes, bytes-of-nodes, legal-is, legal-make}
@@ -240,3 +241,43 @@ bytes-in-bytes (suc n) t =
     let s = drop (place n) t in
     bytes-append (bytesIn n t) (nodeBytes (nodeIn s)) (bytes-in-bytes n t)
     (bytes (nodeBytes (nodeIn s)) (value-byte s 1, (value-byte s 2, (value-byte s 3, tt))))
+
+-- ---- texts that are refused
+
+-- a fault of a tree text has one number, and no node is counted beside it
+abbrev OneFault : ℕ → Type 0
+OneFault n = (n ≡ 0) ⊎ (n ≡ refusalNumber refusal.TreeText)
+
+abbrev Refused : Answer ℕ → Type 0
+Refused x = ¬ (x .fault ≡ 0) → x ≡ refused 0 refusal.TreeText
+
+refused-so : (n a : ℕ) → OneFault n → Refused (answered 0 n a)
+unfolding answered
+refused-so n a (inl e) ne = absurd (ne e)
+refused-so n a (inr e) ne = rw e
+
+frame-refused : (w g : Bool) (a : ℕ) → Refused (answered 0 (frameFault refusal.TreeText w refusal.TreeText g) a)
+frame-refused w g a = refused-so _ a (frame-fault-of OneFault refusal.TreeText refusal.TreeText w g (inl refl) (inr refl) (inr refl))
+
+head-refused : (s : List ℕ) → Refused (readTreeHead s)
+unfolding readTreeHead
+head-refused s = frame-refused _ _ _
+
+node-refused : (n k : ℕ) (s : List ℕ) → Refused (readNode n k s)
+unfolding readNode
+node-refused n k s = frame-refused _ _ _
+
+text-fault : (b : Bool) → OneFault (unless b refusal.TreeText)
+unfolding unless
+text-fault true = inl refl
+text-fault false = inr refl
+
+end-refused : (n : ℕ) (s : List ℕ) → Refused (atEnd 0 refusal.TreeText n s)
+unfolding atEnd
+end-refused n s = refused-so _ n (text-fault (eqb (length s) 0))
+
+pub nodes-refused : (t : List ℕ) → Refused (readNodes t)
+unfolding readNodes
+nodes-refused t =
+    then-each Refused (readTreeHead t) _ (head-refused t) (λ n.
+    run-each readNode 4 (atEnd 0 refusal.TreeText) Refused node-refused end-refused n 0 n (drop (frameLength 2) t))

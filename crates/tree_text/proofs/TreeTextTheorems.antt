@@ -7,17 +7,14 @@ use mathlib.Core.List.{List, _++_}
 use Prim.Native.Nat.{ℕ, _≤_, _*_, _/_}
 use native.Mathlib.Omega.{arith}
 use lib.ListN.{length, drop, take, replicate}
-use lib.Seq.{take-at}
-use Rattle.network.proofs.Booleans.{leb-yes}
 use Rattle.plan.specs.declared.Refusal.the-variants as refusal
-use Rattle.plan.specs.Answer.{unless, first, Answer, fine, answered, filled}
-use Rattle.frame.specs.Texts.{roomFault}
+use Rattle.plan.specs.Answer.{Answer, fine, refused, filled}
 use Rattle.frame.proofs.FrameLaws.{Bytes}
 use Rattle.frame.proofs.RunLaws.{filled-is, filled-front}
 use Rattle.tree.specs.Nodes.{mostBytes, legalLength}
 use Rattle.tree.proofs.NodeLaws.{legal-is}
 use Rattle.tree_text.specs.TreeText.{treeText, writeTree, readNodes, bytesIn, readTree}
-use Rattle.tree_text.proofs.TreeTextLaws.{reads, one-text, bytes-length, bytes-in-bytes, reads-legal, counts-back, bytes-back, writes, reads-whole, text-length}
+use Rattle.tree_text.proofs.TreeTextLaws.{reads, one-text, bytes-length, bytes-in-bytes, reads-legal, counts-back, bytes-back, writes, reads-whole, text-length, nodes-refused}
 
 -- A text reads as a tree of these bytes exactly where it is their text and they have a legal length. (`Bytes`: every entry is below 256.)
 pub read-exactly :
@@ -45,6 +42,10 @@ whatever-reads t n e =
       bytes-in-bytes n t,
       ap (λ (k : ℕ). legalLength (length (bytesIn k t))) (sym m) ∙ reads-legal _ t r,
     )
+
+-- a text that is refused is refused with 5, and no node is counted
+pub refused-with-five : (t : List ℕ) → ¬ (readNodes t .fault ≡ 0) → readNodes t ≡ refused 0 refusal.TreeText
+refused-with-five t ne = nodes-refused t ne
 
 -- what was written reads back, from one buffer as the writing left it into another
 pub written-reads-back :
