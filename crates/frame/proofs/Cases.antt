@@ -1,6 +1,6 @@
 -- Cases: digits, frames and the frames of refusals, computed. Only the checker need believe this file; a reader may like to.
 use mathlib.Core.Path.{_≡_, refl}
-use mathlib.Core.List.{List, [], _∷_}
+use mathlib.Core.List.{[], _∷_}
 use mathlib.Core.Bool.{true, false}
 use Rattle.network.specs.Mask.{allBelow}
 use Rattle.plan.specs.declared.Refusal.the-variants as refusal

@@ -10,7 +10,6 @@ use lib.Dec.{ltb, eqb}
 use lib.ListN.{length, getD, set, drop}
 use lib.Seq.{sets, drop-cons, drop-length}
 use Rattle.network.specs.Mask.{allBelow}
-use Rattle.network.proofs.Booleans.{eqb-no}
 use Rattle.network.proofs.BelowLaws.{all-fails}
 use Rattle.plan.specs.declared.Refusal.{Refusal}
 use Rattle.plan.specs.Refusal.{refusalNumber}

@@ -2,7 +2,7 @@
 use mathlib.Core.Path.{_≡_, refl, sym, ap, _∙_}
 use mathlib.Core.Bool.{Bool, true, false}
 use mathlib.Core.List.{List, [], _∷_, _++_, append-assoc}
-use Prim.Native.Nat.{ℕ, zero, suc, _+_, _-_, _*_, _≤_, _<_}
+use Prim.Native.Nat.{ℕ, zero, suc, _+_, _-_, _≤_, _<_}
 use native.Mathlib.Omega.{arith}
 use lib.Dec.{eqb}
 use lib.ListN.{length, drop, take}
@@ -11,7 +11,6 @@ use Rattle.network.specs.Mask.{joinBelow}
 use Rattle.network.proofs.Booleans.{by-test, eqb-no, eqb-is, differs}
 use Rattle.network.proofs.JoinLaws.{join-first}
 use Rattle.plan.specs.declared.Refusal.{Refusal}
-use Rattle.plan.specs.declared.Judged.the-variants as judged
 use Rattle.plan.specs.Refusal.{refusalNumber}
 use Rattle.plan.specs.Answer.{unless, first, Answer, fine, answered, andThen, filled}
 use Rattle.plan.proofs.RefusalLaws.{no-refusal}
@@ -56,9 +55,6 @@ module _ {A : Type 0} where
   pub answered-fine : (zeros : A) (n : ℕ) (a : A) → n ≡ 0 → answered zeros n a ≡ fine a
   unfolding answered
   answered-fine zeros n a e = rw e
-
-  pub answered-value : (zeros : A) (n : ℕ) (a : A) → n ≡ 0 → answered zeros n a .value ≡ a
-  answered-value zeros n a e = ap (λ (x : Answer A). x .value) (answered-fine zeros n a e)
 
   -- beside a fault the value's place is all zero
   abbrev pub ZeroBeside : A → Answer A → Type 0

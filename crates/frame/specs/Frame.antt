@@ -1,4 +1,4 @@
--- Definitions: a frame, that is a line of bytes as two digits each and a line feed; its first byte is its kind. A reader must believe this file.
+-- Definitions: a frame: a line of bytes, two digits each, and a line feed. Its first byte is its kind. A reader must believe this file.
 use mathlib.Core.Bool.{Bool, _&&_}
 use mathlib.Core.List.{List, [], _∷_}
 use Prim.Native.Nat.{ℕ, _+_, _*_, _/_, _%_}

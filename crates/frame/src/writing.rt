@@ -2,12 +2,11 @@
 use crate::hex;
 use plan::Refusal;
 ghost use mathlib.Core.Path.{_≡_};
-ghost use mathlib.Core.Bool.{cond};
 ghost use mathlib.Core.List.{[], _∷_};
 ghost use Prim.Native.Nat.{_+_, _/_, _%_, _≤_};
-ghost use lib.Dec.{leb};
 ghost use lib.ListN.{length};
 ghost use lib.Seq.{sets};
+ghost use Rattle.plan.specs.Answer.{putAt};
 ghost use Rattle.frame.specs.Hex.{hexDigit};
 ghost use Rattle.frame.specs.Frame.{frameLength, frameText, refusalText};
 
@@ -37,7 +36,7 @@ fn put_line(out: &mut [u8], at: usize, bytes: &[u8])
 
 // The frame of these bytes at place `at` of the buffer. Where it does not fit there, nothing changes.
 pub fn put_frame(out: &mut [u8], at: usize, bytes: &[u8])
-    ensures { λ r. ⌜ now (out .exit) ≡ cond (leb (at + frameLength (length (now (bytes .entry)))) (length (now (out .entry)))) (sets (now (out .entry)) at (frameText (now (bytes .entry)))) (now (out .entry)) ⌝ }
+    ensures { λ r. ⌜ now (out .exit) ≡ putAt (now (out .entry)) at (frameText (now (bytes .entry))) ⌝ }
 {
     if out.len() <= at {
         return;

@@ -15,7 +15,7 @@ use Rattle.plan.specs.declared.Constraint.{Constraint}
 use Rattle.plan.specs.declared.Plan.{Plan}
 use Rattle.plan.specs.declared.Refusal.the-variants as refusal
 use Rattle.plan.specs.Refusal.{refusalNumber}
-use Rattle.plan.specs.Answer.{unless, first}
+use Rattle.plan.specs.Answer.{unless, first, Answer, answered, andThen, filled}
 use Rattle.plan.specs.Plan.{zeroLetter, zeroConstraint, signed, listed, networkOf}
 use Rattle.plan.specs.Judge.{headFine, takenBefore, letterFine, letterUnused, letterEntry, lettersFine, boundFine, constraintFine, constraintUnused, constraintEntry, constraintsFine, planFault}
 
@@ -129,3 +129,20 @@ pub constraints :
     × (planFault (record-of 0 1 0 63 [] (replicate 63 zeroConstraint ++ (constraint 0 0 1 0 0 ∷ []))) ≡ refusalNumber refusal.Constraints)
 unfolding bit allBelow anyBelow headFine takenBefore letterFine letterUnused letterEntry lettersFine boundFine constraintFine constraintUnused constraintEntry constraintsFine planFault first unless
 constraints = (refl, refl, refl, refl, refl, refl, refl, refl)
+
+-- ---- answers and lent buffers
+
+abbrev answer : ℕ → ℕ → Answer ℕ
+answer n v = record { fault = n; value = v }
+
+-- the first fault, whatever the second; the value, and zeros beside a fault; what comes next, and a refusal handed on as it is
+pub answers :
+    (first 2 10 ≡ 2) × (first 0 10 ≡ 10) × (first 2 0 ≡ 2) × (answered 0 0 5 ≡ answer 0 5) × (answered 0 2 5 ≡ answer 2 0)
+    × (andThen (answer 0 5) (λ n. answer 3 n) ≡ answer 3 5) × (andThen (answer 2 5) (λ n. answer 0 n) ≡ answer 2 5)
+unfolding first answered andThen
+answers = (refl, refl, refl, refl, refl, refl, refl)
+
+-- only the bytes filled change, and none under a fault
+pub buffers : (filled 0 (1 ∷ (2 ∷ [])) (7 ∷ (8 ∷ (9 ∷ []))) ≡ 1 ∷ (2 ∷ (9 ∷ []))) × (filled 10 (1 ∷ (2 ∷ [])) (7 ∷ (8 ∷ [])) ≡ 7 ∷ (8 ∷ []))
+unfolding filled
+buffers = (refl, refl)

@@ -2,9 +2,10 @@
 -- A reader must believe this file.
 use mathlib.Core.Bool.{Bool, cond}
 use mathlib.Core.List.{List, _++_}
-use Prim.Native.Nat.{ℕ}
-use lib.Dec.{eqb}
+use Prim.Native.Nat.{ℕ, _+_}
+use lib.Dec.{leb, eqb}
 use lib.ListN.{length, drop}
+use lib.Seq.{sets}
 use Rattle.plan.specs.declared.Refusal.{Refusal}
 use Rattle.plan.specs.Refusal.{refusalNumber}
 
@@ -38,3 +39,7 @@ andThen a next = cond (eqb (a .fault) 0) (next (a .value)) a
 -- a lent buffer, before it xs, after a call that fills its front with these bytes: only they change, and none under a fault
 unfoldable pub filled : ℕ → List ℕ → List ℕ → List ℕ
 filled n bytes xs = cond (eqb n 0) (bytes ++ drop (length bytes) xs) xs
+
+-- the buffer after bytes were put at a place; as it was where they do not fit there
+abbrev pub putAt : List ℕ → ℕ → List ℕ → List ℕ
+putAt xs at bytes = cond (leb (at + length bytes) (length xs)) (sets xs at bytes) xs

@@ -1,13 +1,11 @@
 -- Cases: plan texts, computed: document 01's listing, its edges, and a text for each way to be refused. Only the checker need believe this
 -- file; a reader may like to.
 use mathlib.Core.Path.{_≡_, refl}
-use mathlib.Core.List.{List, [], _∷_, _++_}
-use Prim.Native.Nat.{ℕ, _-_}
+use mathlib.Core.List.{List, [], _∷_}
+use Prim.Native.Nat.{ℕ}
 use Prim.Native.String.{String}
-use lib.ListN.{length, replicate}
-use Rattle.network.specs.Mask.{bit, allBelow, anyBelow, joinBelow}
-use Rattle.plan.specs.declared.Letter.{Letter}
-use Rattle.plan.specs.declared.Constraint.{Constraint}
+use lib.ListN.{replicate}
+use Rattle.network.specs.Mask.{allBelow, anyBelow, joinBelow}
 use Rattle.plan.specs.declared.Plan.{Plan}
 use Rattle.plan.specs.Answer.{unless, first, fine, answered, andThen}
 use Rattle.plan.specs.Plan.{zeroLetter, zeroConstraint, zeroPlan}

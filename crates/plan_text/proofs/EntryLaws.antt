@@ -1,23 +1,22 @@
 -- Laws of the entries of a plan: what makes it well-formed, and when its letters and constraints are fine. Only the checker need believe
 -- this file.
-use mathlib.Core.Path.{_≡_, refl}
+use mathlib.Core.Path.{_≡_}
 use mathlib.Core.Logic.{by-cases}
 use mathlib.Core.Bool.{Bool, true, cond}
 use mathlib.Core.List.{List}
-use Prim.Native.Nat.{ℕ, zero, suc, _≤_, _<_}
+use Prim.Native.Nat.{ℕ, _≤_, _<_}
 use native.Mathlib.Omega.{arith}
 use native.Mathlib.Decide.{decLt}
 use lib.Dec.{ltb, eqb}
 use lib.ListN.{length, getD, replicate, List·getD-eq-default}
-use Rattle.network.specs.Mask.{anyBelow}
-use Rattle.network.proofs.Booleans.{by-test, ltb-yes, ltb-no}
+use Rattle.network.proofs.Booleans.{ltb-yes, ltb-no}
 use Rattle.network.proofs.BelowLaws.{all-at, all-make, any-cong}
 use Rattle.plan.specs.declared.Letter.{Letter}
 use Rattle.plan.specs.declared.Constraint.{Constraint}
 use Rattle.plan.specs.declared.Plan.{Plan}
 use Rattle.plan.specs.Plan.{zeroLetter, zeroConstraint, letterAt, constraintAt}
 use Rattle.plan.specs.WellFormed.{WellFormed}
-use Rattle.plan.specs.Judge.{takenBefore, letterFine, letterUnused, letterEntry, lettersFine, constraintFine, constraintUnused, constraintEntry, constraintsFine, planFault}
+use Rattle.plan.specs.Judge.{takenBefore, letterFine, letterUnused, letterEntry, lettersFine, constraintFine, constraintUnused, constraintEntry, constraintsFine}
 use Rattle.plan.proofs.JudgeLaws.{headOf, no-fault}
 use Rattle.plan.proofs.WellFormedLaws.{fine-exactly, no-fault-is}
 use Rattle.plan_text.proofs.FilledLaws.{SameBelow, UnusedFrom}

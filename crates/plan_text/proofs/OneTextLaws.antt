@@ -1,12 +1,12 @@
 -- Laws of one text: a text that reads as a plan is that plan's text, and the plan is well-formed. Only the checker need believe this file.
 use mathlib.Core.Path.{_≡_, refl, sym, ap, _∙_, subst}
 use mathlib.Core.Bool.{true, _&&_}
-use mathlib.Core.List.{List, [], _∷_, _++_, append-assoc, append-nil}
-use Prim.Native.Nat.{ℕ, suc, _+_, _*_, _/_, _%_, _≤_, _<_}
+use mathlib.Core.List.{List, [], _++_, append-assoc, append-nil}
+use Prim.Native.Nat.{ℕ, _+_, _*_, _/_, _%_, _≤_}
 use native.Mathlib.Omega.{arith}
-use lib.Dec.{leb, eqb, lit<}
+use lib.Dec.{eqb, lit<}
 use lib.ListN.{length, drop, replicate}
-use Rattle.network.proofs.Booleans.{and-left, and-right, leb-is, eqb-is}
+use Rattle.network.proofs.Booleans.{and-left, and-right, eqb-is}
 use Rattle.plan.specs.declared.Letter.{Letter}
 use Rattle.plan.specs.declared.Constraint.{Constraint}
 use Rattle.plan.specs.declared.Plan.{Plan}
@@ -14,10 +14,10 @@ use Rattle.plan.specs.declared.Refusal.the-variants as refusal
 use Rattle.plan.specs.Answer.{Answer, fine}
 use Rattle.plan.specs.Plan.{zeroLetter, zeroConstraint, zeroPlan, listed}
 use Rattle.plan.specs.WellFormed.{WellFormed}
-use Rattle.plan.specs.Judge.{headFine, letterFine, constraintFine}
+use Rattle.plan.specs.Judge.{letterFine, constraintFine}
 use Rattle.plan.proofs.JudgeLaws.{headOf}
 use Rattle.plan.proofs.WellFormedLaws.{says-head}
-use Rattle.frame.specs.Frame.{frameLength, frameText, valueAt, whole}
+use Rattle.frame.specs.Frame.{frameLength, valueAt, whole}
 use Rattle.frame.specs.Texts.{atEnd}
 use Rattle.frame.proofs.FrameLaws.{whole-said}
 use Rattle.frame.proofs.RunLaws.{then-goes, then-fine, frame-read-is, at-end, at-end-is}

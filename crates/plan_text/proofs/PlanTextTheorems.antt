@@ -7,11 +7,11 @@ use Prim.Native.Nat.{ℕ, _≤_}
 use native.Mathlib.Omega.{arith}
 use lib.ListN.{length, take}
 use Rattle.plan.specs.declared.Plan.{Plan}
-use Rattle.plan.specs.Answer.{fine, filled}
+use Rattle.plan.specs.Answer.{fine}
 use Rattle.plan.specs.Plan.{zeroPlan}
 use Rattle.plan.specs.WellFormed.{WellFormed}
 use Rattle.frame.proofs.RunLaws.{filled-front}
-use Rattle.plan_text.specs.PlanText.{planText, writePlan}
+use Rattle.plan_text.specs.PlanText.{planText, writePlan, writePlanLeaves}
 use Rattle.plan_text.specs.ReadPlan.{readPlan}
 use Rattle.plan_text.proofs.LengthLaws.{plan-length, longest, longest-fine}
 use Rattle.plan_text.proofs.ReadBackLaws.{read-back}
@@ -34,7 +34,7 @@ refused-zero t ne = let (number, zeros) = refused t in (number, zeros ne)
 pub written-reads-back :
     (p : Plan) → WellFormed p → length (p .letter) ≡ 6 → length (p .constraint) ≡ 64 → (xs : List ℕ) →
     length (planText p) ≤ length xs → (writePlan p xs ≡ fine (length (planText p)))
-    × (readPlan (take (writePlan p xs .value) (filled (writePlan p xs .fault) (planText p) xs)) ≡ fine p)
+    × (readPlan (take (writePlan p xs .value) (writePlanLeaves p xs)) ≡ fine p)
 written-reads-back p wf six sixty-four xs room =
     let written = written-fine p xs wf room in
     (written, rw (written, filled-front (planText p) xs) (read-back p wf six sixty-four))

@@ -1,5 +1,4 @@
 -- Laws of refused plan texts: by which numbers, and that the plan is then all zero. Only the checker need believe this file.
-use mathlib.Core.Path.{_≡_}
 use mathlib.Core.Bool.{Bool, true, false}
 use mathlib.Core.List.{List}
 use Prim.Native.Nat.{ℕ, _≤_}
@@ -15,7 +14,7 @@ use Rattle.plan.specs.Plan.{zeroPlan}
 use Rattle.frame.specs.Frame.{frameLength}
 use Rattle.frame.specs.Texts.{frameFault, atEnd}
 use Rattle.frame.proofs.RunLaws.{frame-fault-of, ZeroBeside, answered-fault, answered-zero, then-each, run-each}
-use Rattle.plan_text.specs.ReadPlan.{readHead, readLetter, readConstraint, readConstraints, readLetters, readPlan}
+use Rattle.plan_text.specs.ReadPlan.{readHead, readLetter, readConstraint, readConstraints, readPlan}
 
 -- none of the numbers past 4, and zeros beside a fault
 abbrev pub Refused : Answer Plan → Type 0

@@ -1,5 +1,5 @@
--- Laws of the writer of plan texts: its three parts stored one after the other, what is answered and left. Only the checker need believe this
--- file.
+-- Laws of the writer of plan texts: its three parts put one behind the other, what is answered and what is left in the buffer. Only the
+-- checker need believe this file.
 use mathlib.Core.Path.{_≡_, refl, sym}
 use mathlib.Core.List.{List}
 use Prim.Native.Nat.{ℕ, _+_, _*_, _≤_, _<_}
@@ -10,14 +10,13 @@ use Rattle.plan.specs.declared.Plan.{Plan}
 use Rattle.plan.specs.declared.Refusal.{Refusal}
 use Rattle.plan.specs.declared.Refusal.the-variants as refusal
 use Rattle.plan.specs.Refusal.{refusalNumber}
-use Rattle.plan.specs.Answer.{filled}
 use Rattle.plan.specs.Plan.{letterAt, constraintAt}
 use Rattle.plan.specs.Judge.{planFault}
 use Rattle.frame.specs.declared.Written.{Written}
 use Rattle.frame.specs.declared.Written.the-variants as written
 use Rattle.frame.specs.Texts.{writtenAnswer}
 use Rattle.frame.proofs.WritingLaws.{sets-append, write-refused, write-short, write-done}
-use Rattle.plan_text.specs.PlanText.{headText, letterText, constraintText, lettersText, constraintsText, planText, writePlan}
+use Rattle.plan_text.specs.PlanText.{headText, letterText, constraintText, lettersText, constraintsText, planText, writePlan, writePlanLeaves}
 use Rattle.plan_text.proofs.LengthLaws.{plan-length}
 
 module _ (p : Plan) where
@@ -45,7 +44,7 @@ module _ (p : Plan) where
     plan-put = sym (rw letters-length at (sets-append (sets xs 0 (headText p)) 11 (lettersText p) (constraintsText p)))
 
     abbrev Answers : Written → List ℕ → Type 0
-    Answers r ys = (writtenAnswer r ≡ writePlan p xs) × (ys ≡ filled (writePlan p xs .fault) (planText p) xs)
+    Answers r ys = (writtenAnswer r ≡ writePlan p xs) × (ys ≡ writePlanLeaves p xs)
 
     pub plan-refused : (r : Refusal) → refusalNumber r ≡ planFault p → Answers (written.Refused r) xs
     unfolding writePlan

@@ -2,11 +2,10 @@
 use mathlib.Core.Path.{_≡_}
 use mathlib.Core.List.{List}
 use Prim.Native.Nat.{ℕ, _≤_}
-use lib.ListN.{length, take, drop}
-use lib.Seq.{take-append-seam}
+use lib.ListN.{length}
 use Rattle.network.proofs.Booleans.{leb-yes}
 use Rattle.plan.specs.declared.Plan.{Plan}
-use Rattle.plan.specs.Answer.{unless, first, fine, answered, filled}
+use Rattle.plan.specs.Answer.{unless, first, fine, answered}
 use Rattle.plan.specs.WellFormed.{WellFormed}
 use Rattle.plan.proofs.WellFormedLaws.{fine-exactly}
 use Rattle.plan_text.specs.PlanText.{planText, writePlan}

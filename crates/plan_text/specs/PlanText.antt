@@ -6,7 +6,7 @@ use Rattle.network.specs.Mask.{joinBelow}
 use Rattle.plan.specs.declared.Letter.{Letter}
 use Rattle.plan.specs.declared.Constraint.{Constraint}
 use Rattle.plan.specs.declared.Plan.{Plan}
-use Rattle.plan.specs.Answer.{first, Answer, answered}
+use Rattle.plan.specs.Answer.{first, Answer, answered, filled}
 use Rattle.plan.specs.Plan.{letterAt, constraintAt}
 use Rattle.plan.specs.Judge.{planFault}
 use Rattle.frame.specs.Frame.{frameText}
@@ -37,3 +37,7 @@ planText p = headText p ++ lettersText p ++ constraintsText p
 -- 2, 3, 4, 10; else the text's length
 unfoldable pub writePlan : Plan → List ℕ → Answer ℕ
 writePlan p xs = answered 0 (first (planFault p) (roomFault (planText p) xs)) (length (planText p))
+
+-- what that leaves in the buffer
+abbrev pub writePlanLeaves : Plan → List ℕ → List ℕ
+writePlanLeaves p xs = filled (writePlan p xs .fault) (planText p) xs

@@ -1,5 +1,5 @@
--- Definitions: the plan that a text says. A reader must believe this file, or only that it says of each text of a well-formed plan that
--- plan and refuses every other: `read-exactly` of proofs/PlanTextTheorems.antt. The numbers of the refusals stand here alone.
+-- Definitions: the plan that a text says, or the number of its first faulty frame. A reader must believe this file; that it says a plan for
+-- just the texts of well-formed plans, and that plan, is `read-exactly` of proofs/PlanTextTheorems.antt.
 use mathlib.Core.Bool.{_&&_}
 use mathlib.Core.List.{List}
 use Prim.Native.Nat.{ℕ, _+_, _*_}
@@ -35,11 +35,12 @@ headIn s =
       constraint = zeroPlan .constraint;
     }
 
+abbrev pub headFault : List ℕ → ℕ
+headFault s =
+    frameFault refusal.PlanText (whole 1 5 s) refusal.Head (headFine (valueAt s 1) (valueAt s 2) (valueAt s 3) (valueAt s 4))
+
 unfoldable pub readHead : List ℕ → Answer Plan
-readHead s =
-    answered zeroPlan
-    (frameFault refusal.PlanText (whole 1 5 s) refusal.Head (headFine (valueAt s 1) (valueAt s 2) (valueAt s 3) (valueAt s 4)))
-    (headIn s)
+readHead s = answered zeroPlan (headFault s) (headIn s)
 
 -- ---- a letter
 
@@ -57,12 +58,13 @@ withLetter p i l =
       constraint = p .constraint;
     }
 
+abbrev pub letterFault : Plan → ℕ → List ℕ → ℕ
+letterFault p i s =
+    frameFault refusal.PlanText (whole 2 4 s) refusal.Letters (eqb (valueAt s 1) i && letterFine p i (letterIn s))
+
 -- letter i into the plan that was read so far
 unfoldable pub readLetter : Plan → ℕ → List ℕ → Answer Plan
-readLetter p i s =
-    answered zeroPlan
-    (frameFault refusal.PlanText (whole 2 4 s) refusal.Letters (eqb (valueAt s 1) i && letterFine p i (letterIn s)))
-    (withLetter p i (letterIn s))
+readLetter p i s = answered zeroPlan (letterFault p i s) (withLetter p i (letterIn s))
 
 -- ---- a constraint
 
@@ -87,12 +89,12 @@ withConstraint p j c =
       constraint = set (p .constraint) j c;
     }
 
+abbrev pub constraintFault : Plan → List ℕ → ℕ
+constraintFault p s = frameFault refusal.PlanText (whole 3 7 s) refusal.Constraints (constraintFine p (constraintIn s))
+
 -- constraint j into the plan that was read so far
 unfoldable pub readConstraint : Plan → ℕ → List ℕ → Answer Plan
-readConstraint p j s =
-    answered zeroPlan
-    (frameFault refusal.PlanText (whole 3 7 s) refusal.Constraints (constraintFine p (constraintIn s)))
-    (withConstraint p j (constraintIn s))
+readConstraint p j s = answered zeroPlan (constraintFault p s) (withConstraint p j (constraintIn s))
 
 -- ---- the plan: one head, its letters, its constraints, and nothing more; the first faulty frame decides
 

@@ -13,9 +13,8 @@ ghost use mathlib.Core.Path.{_≡_};
 ghost use Prim.Native.Nat.{_+_, _*_, _≤_};
 ghost use lib.ListN.{length};
 ghost use lib.Seq.{sets};
-ghost use Rattle.plan.specs.Answer.{filled};
 ghost use Rattle.frame.specs.Texts.{writtenAnswer};
-ghost use Rattle.plan_text.specs.PlanText.{headText, letterText, constraintText, lettersText, constraintsText, planText, writePlan};
+ghost use Rattle.plan_text.specs.PlanText.{headText, letterText, constraintText, lettersText, constraintsText, writePlan, writePlanLeaves};
 
 fn put_head(out: &mut [u8], p: Plan)
     requires { ⌜ 11 ≤ length (now out) ⌝ }
@@ -69,7 +68,7 @@ fn put_constraints(out: &mut [u8], from: usize, p: Plan)
 // The text of a plan into a buffer of any length, and its length; or 2, 3, 4, 10.
 pub fn write_plan(plan: Plan, out: &mut [u8]) -> Written
     ensures answer { λ r. ⌜ writtenAnswer r ≡ writePlan plan (now (out .entry)) ⌝ }
-    ensures buffer { λ r. ⌜ now (out .exit) ≡ filled (writePlan plan (now (out .entry)) .fault) (planText plan) (now (out .entry)) ⌝ }
+    ensures buffer { λ r. ⌜ now (out .exit) ≡ writePlanLeaves plan (now (out .entry)) ⌝ }
 {
     let judged = judge::judge(plan);
     if let Judged::Refused(r) = judged {

@@ -1,10 +1,8 @@
 // A tree in memory: its nodes as bytes, three to a node.
 ghost use mathlib.Core.Path.{_≡_};
-ghost use mathlib.Core.Bool.{cond};
-ghost use Prim.Native.Nat.{_+_, _*_};
-ghost use lib.Dec.{leb};
-ghost use lib.ListN.{length, getD};
-ghost use lib.Seq.{sets};
+ghost use Prim.Native.Nat.{_*_};
+ghost use lib.ListN.{getD};
+ghost use Rattle.plan.specs.Answer.{putAt};
 ghost use Rattle.tree.specs.Nodes.{legalLength, nodeBytes, nodeAt};
 
 // What is done in a slot: the points performed and the choices made, as masks.
@@ -45,7 +43,7 @@ pub fn node_at(bytes: &[u8], k: u8) -> Node
 
 // Node k stored in the bytes. Where they have no room for it, nothing changes.
 pub fn put_node(bytes: &mut [u8], k: u8, v: Node)
-    ensures { λ r. ⌜ now (bytes .exit) ≡ cond (leb (3 * k + 3) (length (now (bytes .entry)))) (sets (now (bytes .entry)) (3 * k) (nodeBytes v)) (now (bytes .entry)) ⌝ }
+    ensures { λ r. ⌜ now (bytes .exit) ≡ putAt (now (bytes .entry)) (3 * k) (nodeBytes v) ⌝ }
 {
     let i = 3 * (k as usize);
     if bytes.len() < i + 3 {

@@ -1,11 +1,10 @@
 -- Laws of tree texts as the code reads and writes them. Only the checker need believe this file.
 use mathlib.Core.Path.{_≡_, refl, sym, ap, _∙_, subst}
-use mathlib.Core.Bool.{true, false, cond}
+use mathlib.Core.Bool.{true, false}
 use mathlib.Core.List.{List}
-use Prim.Native.Nat.{ℕ, _+_, _-_, _*_, _/_, _%_, _≤_, _<_}
+use Prim.Native.Nat.{ℕ, _+_, _-_, _*_, _/_, _≤_, _<_}
 use native.Mathlib.Omega.{arith}
 use native.Mathlib.Nat.{zero-add}
-use lib.Dec.{leb}
 use lib.ListN.{length, drop, take}
 use lib.Seq.{sets, sets-eq}
 use borrow.Author.Tests.{le-leb, lt-leb}
@@ -15,21 +14,21 @@ use Rattle.plan.specs.declared.Refusal.{Refusal}
 use Rattle.plan.specs.declared.Refusal.the-variants as refusal
 use Rattle.plan.specs.declared.Judged.{Judged}
 use Rattle.plan.specs.declared.Judged.the-variants as judged
-use Rattle.plan.specs.Refusal.{refusalNumber, judgedNumber}
-use Rattle.plan.specs.Answer.{Answer, unless, first, fine, refused, answered, filled}
+use Rattle.plan.specs.Refusal.{judgedNumber}
+use Rattle.plan.specs.Answer.{Answer, unless, first, fine, refused, answered, filled, putAt}
 use Rattle.plan.proofs.RefusalLaws.{some-number}
 use Rattle.frame.specs.declared.Written.{Written}
 use Rattle.frame.specs.declared.Written.the-variants as written
 use Rattle.frame.specs.Frame.{frameLength}
 use Rattle.frame.specs.Texts.{framesFrom, atEnd, writtenAnswer}
 use Rattle.frame.proofs.RunLaws.{answered-fine, filled-is}
-use Rattle.frame.proofs.ReadingLaws.{rest-is, answered-refused, read-long, frames-on}
+use Rattle.frame.proofs.ReadingLaws.{rest-is, answered-refused, frames-on}
 use Rattle.frame.proofs.WritingLaws.{sets-append, join-next, write-refused, write-short, write-done}
 use Rattle.tree.specs.declared.Node.{Node}
 use Rattle.tree.specs.Nodes.{mostBytes, legalLength, nodeBytes, nodeAt}
 use Rattle.tree_text.specs.declared.TreeRead.{TreeRead}
 use Rattle.tree_text.specs.declared.TreeRead.the-variants as tree-read
-use Rattle.tree_text.specs.TreeText.{treeHeadText, nodeText, treeText, writeTree, treeReadAnswer, readNode, readNodes, nodeIn, bytesIn, readTree}
+use Rattle.tree_text.specs.TreeText.{treeHeadText, nodeText, treeText, writeTree, treeReadAnswer, readNode, readNodes, nodeIn, bytesIn, readTree, readTreeLeaves, writeTreeLeaves}
 use Rattle.tree_text.proofs.TreeTextLaws.{Reads, reads, node-fine, one-text, bytes-length, text-length, reads-whole}
 
 -- ---- answers
@@ -53,7 +52,7 @@ nodes-on n k s lt e = frames-on readNode 4 (atEnd 0 refusal.TreeText) n k n s lt
 pub node-put :
     (t xs ys : List ℕ) (k at : ℕ) (v : Node) {zs : List ℕ} → at ≡ 5 + 9 * k → ys ≡ sets xs 0 (bytesIn k t) → 3 * k + 3 ≤ length ys →
     v ≡ nodeIn (take (length t - at) (drop at t)) →
-    zs ≡ cond (leb (3 * k + 3) (length ys)) (sets ys (3 * k) (nodeBytes v)) ys → zs ≡ sets xs 0 (bytesIn (k + 1) t)
+    zs ≡ putAt ys (3 * k) (nodeBytes v) → zs ≡ sets xs 0 (bytesIn (k + 1) t)
 node-put t xs ys k at v e y room is z =
     join-next (λ i. nodeBytes (nodeIn (drop (5 + 9 * i) t))) 3 (λ i. refl) xs 0 (3 * k) k (omega arith)
     (z
@@ -63,7 +62,7 @@ node-put t xs ys k at v e y room is z =
 -- what is answered, and what is left in the buffer
 module _ (t xs : List ℕ) where
   abbrev ReadAnswers : TreeRead → List ℕ → Type 0
-  ReadAnswers r ys = (treeReadAnswer r ≡ readTree t xs) × (ys ≡ filled (readTree t xs .fault) (bytesIn (readTree t xs .value) t) xs)
+  ReadAnswers r ys = (treeReadAnswer r ≡ readTree t xs) × (ys ≡ readTreeLeaves t xs)
 
   pub read-short : length xs < mostBytes → ReadAnswers (tree-read.Refused refusal.Buffer) xs
   unfolding readTree answered first unless filled
@@ -106,7 +105,7 @@ module _ (bs : List ℕ) where
 
   module _ (xs : List ℕ) where
     abbrev Answers : Written → List ℕ → Type 0
-    Answers r ys = (writtenAnswer r ≡ writeTree bs xs) × (ys ≡ filled (writeTree bs xs .fault) (treeText bs) xs)
+    Answers r ys = (writtenAnswer r ≡ writeTree bs xs) × (ys ≡ writeTreeLeaves bs xs)
 
     -- the two parts stored one after the other
     abbrev put : List ℕ

@@ -11,17 +11,16 @@ use lib.Dec.{leb, eqb, lit<}
 use lib.ListN.{length, getD, drop, length-append}
 use lib.Seq.{drop-drop}
 use Rattle.network.specs.Mask.{joinBelow}
-use Rattle.network.proofs.Booleans.{and-left, and-right, and-make, leb-yes, leb-is, eqb-is}
+use Rattle.network.proofs.Booleans.{and-left, and-right, and-make, leb-yes, leb-is}
 use Rattle.network.proofs.JoinLaws.{join-cong, join-length, drop-to-piece}
 use Rattle.plan.specs.declared.Refusal.the-variants as refusal
 use Rattle.plan.specs.Refusal.{refusalNumber}
 use Rattle.plan.specs.Answer.{unless, first, Answer, fine, refused, answered}
 use Rattle.plan.specs.Plan.{listed}
-use Rattle.frame.specs.Frame.{frameLength, frameText, valueAt, whole}
+use Rattle.frame.specs.Frame.{frameLength, valueAt, whole}
 use Rattle.frame.specs.Texts.{frameFault, framesFrom, atEnd}
 use Rattle.frame.proofs.FrameLaws.{Bytes, bytes, bytes-append, value-back, whole-back, frame-behind, whole-said}
 use Rattle.frame.proofs.RunLaws.{frame-fault-of, then-each, run-each, frame-read, frame-read-is, at-end, at-end-is, then-goes, then-fine, run-back, run-invariant}
-use Rattle.tree.specs.declared.Node.{Node}
 use Rattle.tree.specs.Nodes.{mostNodes, mostBytes, legalLength, nodeBytes, nodeAt}
 use Rattle.tree.proofs.NodeLaws.{nodes-length, node-of-bytes, bytes-of-nodes, legal-is, legal-make}
 use Rattle.tree_text.specs.TreeText.{treeHeadText, nodeText, treeText, writeTree, readTree, readTreeHead, readNode, readNodes, nodeIn, bytesIn}

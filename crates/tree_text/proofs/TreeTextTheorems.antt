@@ -13,7 +13,7 @@ use Rattle.frame.proofs.FrameLaws.{Bytes}
 use Rattle.frame.proofs.RunLaws.{filled-is, filled-front}
 use Rattle.tree.specs.Nodes.{mostBytes, legalLength}
 use Rattle.tree.proofs.NodeLaws.{legal-is}
-use Rattle.tree_text.specs.TreeText.{treeText, writeTree, readNodes, bytesIn, readTree}
+use Rattle.tree_text.specs.TreeText.{treeText, writeTree, readNodes, bytesIn, readTree, readTreeLeaves, writeTreeLeaves}
 use Rattle.tree_text.proofs.TreeTextLaws.{reads, one-text, bytes-length, bytes-in-bytes, reads-legal, counts-back, bytes-back, writes, reads-whole, text-length, nodes-refused}
 
 -- A text reads as a tree of these bytes exactly where it is their text and they have a legal length. (`Bytes`: every entry is below 256.)
@@ -52,9 +52,9 @@ pub written-reads-back :
     (bs : List ℕ) → Bytes bs → legalLength (length bs) ≡ true → (xs : List ℕ) → length (treeText bs) ≤ length xs →
     (writeTree bs xs ≡ fine (length (treeText bs)))
     × ((ys : List ℕ) → mostBytes ≤ length ys →
-    let t = take (writeTree bs xs .value) (filled (writeTree bs xs .fault) (treeText bs) xs) in
+    let t = take (writeTree bs xs .value) (writeTreeLeaves bs xs) in
     (readTree t ys ≡ fine (length bs / 3))
-    × (filled (readTree t ys .fault) (bytesIn (readTree t ys .value) t) ys ≡ bs ++ drop (length bs) ys))
+    × (readTreeLeaves t ys ≡ bs ++ drop (length bs) ys))
 written-reads-back bs h e xs room =
     let t = treeText bs in
     let w = writes bs xs e room in

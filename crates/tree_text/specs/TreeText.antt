@@ -6,7 +6,7 @@ use lib.Dec.{leb}
 use lib.ListN.{length, drop}
 use Rattle.network.specs.Mask.{joinBelow}
 use Rattle.plan.specs.declared.Refusal.the-variants as refusal
-use Rattle.plan.specs.Answer.{unless, first, Answer, fine, refused, answered, andThen}
+use Rattle.plan.specs.Answer.{unless, first, Answer, fine, refused, answered, andThen, filled}
 use Rattle.frame.specs.Frame.{frameLength, frameText, valueAt, whole}
 use Rattle.frame.specs.Texts.{frameFault, framesFrom, atEnd, roomFault}
 use Rattle.tree.specs.declared.Node.{Node}
@@ -32,6 +32,10 @@ treeText bs = treeHeadText (length bs / 3) ++ joinBelow (length bs / 3) (λ k. n
 unfoldable pub writeTree : List ℕ → List ℕ → Answer ℕ
 writeTree bs xs = answered 0 (first (unless (legalLength (length bs)) refusal.Shape) (roomFault (treeText bs) xs)) (length (treeText bs))
 
+-- what that leaves in the buffer
+abbrev pub writeTreeLeaves : List ℕ → List ℕ → List ℕ
+writeTreeLeaves bs xs = filled (writeTree bs xs .fault) (treeText bs) xs
+
 -- ---- the tree that a text says: how many nodes, and their bytes
 
 -- fault and value of an answer: the number of nodes
@@ -42,7 +46,8 @@ treeReadAnswer (tree-read.Refused r) = refused 0 r
 -- a number of nodes from 1 to 191
 unfoldable pub readTreeHead : List ℕ → Answer ℕ
 readTreeHead s =
-    answered 0 (frameFault refusal.TreeText (whole 4 2 s) refusal.TreeText (leb 1 (valueAt s 1) && leb (valueAt s 1) mostNodes)) (valueAt s 1)
+    let good = leb 1 (valueAt s 1) && leb (valueAt s 1) mostNodes in
+    answered 0 (frameFault refusal.TreeText (whole 4 2 s) refusal.TreeText good) (valueAt s 1)
 
 -- any three bytes will do for a node
 unfoldable pub readNode : ℕ → ℕ → List ℕ → Answer ℕ
@@ -64,3 +69,7 @@ bytesIn n s = joinBelow n (λ k. nodeBytes (nodeIn (drop (frameLength 2 + frameL
 -- 10, then 5; else the number of nodes
 unfoldable pub readTree : List ℕ → List ℕ → Answer ℕ
 readTree s xs = answered 0 (first (unless (leb mostBytes (length xs)) refusal.Buffer) (readNodes s .fault)) (readNodes s .value)
+
+-- what that leaves in the buffer
+abbrev pub readTreeLeaves : List ℕ → List ℕ → List ℕ
+readTreeLeaves s xs = filled (readTree s xs .fault) (bytesIn (readTree s xs .value) s) xs

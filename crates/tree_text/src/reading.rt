@@ -11,10 +11,10 @@ ghost use lib.ListN.{length, drop};
 ghost use lib.Seq.{sets};
 ghost use Rattle.plan.specs.declared.Refusal.the-variants as refusal;
 ghost use Rattle.plan.specs.Refusal.{judgedNumber};
-ghost use Rattle.plan.specs.Answer.{answered, filled};
+ghost use Rattle.plan.specs.Answer.{answered};
 ghost use Rattle.frame.specs.Frame.{frameLength};
 ghost use Rattle.frame.specs.Texts.{framesFrom, atEnd};
-ghost use Rattle.tree_text.specs.TreeText.{treeReadAnswer, readTreeHead, readNode, readNodes, nodeIn, bytesIn, readTree};
+ghost use Rattle.tree_text.specs.TreeText.{treeReadAnswer, readTreeHead, readNode, readNodes, nodeIn, bytesIn, readTree, readTreeLeaves};
 
 // n nodes beside fine.
 fn answered_nodes(answer: Judged, n: u8) -> TreeRead
@@ -112,7 +112,7 @@ fn put_nodes(text: &[u8], count: u8, out: &mut [u8])
 // The tree that a text of any bytes and length says, into a buffer of any length, and the number of its nodes; or 10, 5.
 pub fn read_tree(text: &[u8], out: &mut [u8]) -> TreeRead
     ensures answer { λ r. ⌜ treeReadAnswer r ≡ readTree (now (text .entry)) (now (out .entry)) ⌝ }
-    ensures buffer { λ r. ⌜ now (out .exit) ≡ filled (readTree (now (text .entry)) (now (out .entry)) .fault) (bytesIn (readTree (now (text .entry)) (now (out .entry)) .value) (now (text .entry))) (now (out .entry)) ⌝ }
+    ensures buffer { λ r. ⌜ now (out .exit) ≡ readTreeLeaves (now (text .entry)) (now (out .entry)) ⌝ }
 {
     if out.len() < 573 {
         return TreeRead::Refused(Refusal::Buffer);

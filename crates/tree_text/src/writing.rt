@@ -8,10 +8,9 @@ ghost use Prim.Native.Nat.{_+_, _*_, _≤_};
 ghost use lib.ListN.{length};
 ghost use lib.Seq.{sets};
 ghost use Rattle.network.specs.Mask.{joinBelow};
-ghost use Rattle.plan.specs.Answer.{filled};
 ghost use Rattle.frame.specs.Texts.{writtenAnswer};
 ghost use Rattle.tree.specs.Nodes.{nodeAt};
-ghost use Rattle.tree_text.specs.TreeText.{treeHeadText, nodeText, treeText, writeTree};
+ghost use Rattle.tree_text.specs.TreeText.{treeHeadText, nodeText, writeTree, writeTreeLeaves};
 
 fn put_head(out: &mut [u8], n: u8)
     requires { ⌜ 5 ≤ length (now out) ⌝ }
@@ -43,7 +42,7 @@ fn put_node_frames(out: &mut [u8], bytes: &[u8], n: u8)
 // The text of a tree's bytes, of any contents and length, into a buffer of any length, and its length; or 6, 10.
 pub fn write_tree(bytes: &[u8], out: &mut [u8]) -> Written
     ensures answer { λ r. ⌜ writtenAnswer r ≡ writeTree (now (bytes .entry)) (now (out .entry)) ⌝ }
-    ensures buffer { λ r. ⌜ now (out .exit) ≡ filled (writeTree (now (bytes .entry)) (now (out .entry)) .fault) (treeText (now (bytes .entry))) (now (out .entry)) ⌝ }
+    ensures buffer { λ r. ⌜ now (out .exit) ≡ writeTreeLeaves (now (bytes .entry)) (now (out .entry)) ⌝ }
 {
     if !tree::legal_length(bytes.len()) {
         return Written::Refused(Refusal::Shape);

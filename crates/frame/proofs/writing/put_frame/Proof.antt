@@ -5,14 +5,16 @@ use native.Mathlib.Omega.{arith}
 use borrow.Author.Needs.{needs}
 use borrow.Author.Tests.{le-leb, lt-leb}
 use lib.ListN.{length}
-use Rattle.frame.specs.Frame.{frameLength}
+use Rattle.frame.specs.Frame.{frameText}
+use Rattle.frame.proofs.FrameLaws.{frame-length}
 use Rattle.frame.proofs.writing.put_frame.Statement.{statement}
 use Rattle.frame.proofs.writing.put_frame.Tie as tie
 
 returns : tie.Need-returns
 returns c =
     let a = c .before .before .before .args in
-    rw (lt-leb (a .at + frameLength (length (now (a .bytes)))) (length (now (a .out))) (omega arith))
+    let l = frame-length (now (a .bytes)) in
+    rw (lt-leb (a .at + length (frameText (now (a .bytes)))) (length (now (a .out))) (omega arith))
 
 sub-if2 : tie.Need-sub-if2
 sub-if2 c = search needs
@@ -23,7 +25,8 @@ sub-if2-2 c = search needs
 returns-2 : tie.Need-returns-2
 returns-2 c =
     let a = c .before .before .before .before .args in
-    rw (lt-leb (a .at + frameLength (length (now (a .bytes)))) (length (now (a .out))) (omega arith))
+    let l = frame-length (now (a .bytes)) in
+    rw (lt-leb (a .at + length (frameText (now (a .bytes)))) (length (now (a .out))) (omega arith))
 
 put-line-requires : tie.Need-put-line-requires
 put-line-requires c κs = search needs
@@ -34,7 +37,8 @@ same-length c = search needs
 returns-3 : tie.Need-returns-3
 returns-3 c =
     let a = c .before .before .before .before .before .before .before .before .args in
-    rw (le-leb (a .at + frameLength (length (now (a .bytes)))) (length (now (a .out))) (omega arith)) (c .before .before .put-line .ensures)
+    let l = frame-length (now (a .bytes)) in
+    rw (le-leb (a .at + length (frameText (now (a .bytes)))) (length (now (a .out))) (omega arith)) (c .before .before .put-line .ensures)
 
 pub put-frame-spec : {M : Type 1} → statement M
 put-frame-spec =

@@ -1,11 +1,8 @@
 -- By cases on the judgement. Only the checker need believe this file.
-use mathlib.Core.Path.{_≡_, sym, ap, _∙_, refl}
 use Rattle.tree_text.proofs.CodeLaws.{refused-is, fine-is}
 use borrow.Author.Needs.{needs}
 use Rattle.tree_text.proofs.reading.answered_nodes.Statement.{statement}
 use Rattle.tree_text.proofs.reading.answered_nodes.Tie as tie
-use Rattle.tree_text.proofs.reading.answered_nodes.Reads as reads
-use Rattle.tree_text.proofs.reading.answered_nodes.Lts as lts
 
 enum-known-answer : tie.Need-enum-known-answer
 enum-known-answer c = search needs

@@ -2,9 +2,6 @@
 use borrow.Author.Needs.{needs}
 use Rattle.tree_text.proofs.reading.node_in.Statement.{statement}
 use Rattle.tree_text.proofs.reading.node_in.Tie as tie
-use Rattle.tree_text.proofs.reading.node_in.Reads as reads
-use Rattle.tree_text.proofs.reading.node_in.Lts as lts
-use Rattle.frame.proofs.reading.value_at.Reads as value-at-reads
 
 value-at-requires : tie.Need-value-at-requires
 value-at-requires c κs = search needs

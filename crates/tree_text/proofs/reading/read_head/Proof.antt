@@ -3,12 +3,6 @@ use Rattle.tree_text.specs.TreeText.{readTreeHead}
 use borrow.Author.Needs.{needs}
 use Rattle.tree_text.proofs.reading.read_head.Statement.{statement}
 use Rattle.tree_text.proofs.reading.read_head.Tie as tie
-use Rattle.tree_text.proofs.reading.read_head.Reads as reads
-use Rattle.tree_text.proofs.reading.read_head.Lts as lts
-use Rattle.frame.proofs.reading.frame_fault.Reads as frame-fault-reads
-use Rattle.frame.proofs.reading.is_whole.Reads as is-whole-reads
-use Rattle.frame.proofs.reading.value_at.Reads as value-at-reads
-use Rattle.tree_text.proofs.reading.answered_nodes.Reads as answered-nodes-reads
 
 value-at-requires : tie.Need-value-at-requires
 value-at-requires c κs = search needs

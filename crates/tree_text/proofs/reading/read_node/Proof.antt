@@ -3,11 +3,6 @@ use Rattle.tree_text.specs.TreeText.{readNode}
 use borrow.Author.Needs.{needs}
 use Rattle.tree_text.proofs.reading.read_node.Statement.{statement}
 use Rattle.tree_text.proofs.reading.read_node.Tie as tie
-use Rattle.tree_text.proofs.reading.read_node.Reads as reads
-use Rattle.tree_text.proofs.reading.read_node.Lts as lts
-use Rattle.frame.proofs.reading.frame_fault.Reads as frame-fault-reads
-use Rattle.frame.proofs.reading.is_whole.Reads as is-whole-reads
-use Rattle.tree_text.proofs.reading.answered_nodes.Reads as answered-nodes-reads
 
 is-whole-requires : tie.Need-is-whole-requires
 is-whole-requires c κs = search needs

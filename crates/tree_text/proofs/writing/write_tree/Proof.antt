@@ -1,5 +1,5 @@
 -- By the laws of what is answered and left in the buffer. Only the checker need believe this file.
-use mathlib.Core.Path.{_≡_, sym, ap, _∙_}
+use mathlib.Core.Path.{_≡_}
 use denote.Ref.{now}
 use Prim.Native.Nat.{_/_, _%_}
 use native.Mathlib.Omega.{arith}
