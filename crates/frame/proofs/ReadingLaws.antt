@@ -32,7 +32,8 @@ module _ {A : Type 0} where
   pub then-on : {x : Answer A} (a : Answer A) (next : A → Answer A) → x ≡ a → x .fault ≡ 0 → andThen a next ≡ next (x .value)
   then-on {x} a next e h = rw (← e) (then-goes x next h)
 
-  pub then-stop : {x : Answer A} (a : Answer A) (next : A → Answer A) (r : Refusal) → x ≡ a → x .fault ≡ refusalNumber r → x ≡ andThen a next
+  pub then-stop :
+      {x : Answer A} (a : Answer A) (next : A → Answer A) (r : Refusal) → x ≡ a → x .fault ≡ refusalNumber r → x ≡ andThen a next
   then-stop {x} a next r e h = rw (← e) (sym (then-stops x next (λ z. no-refusal r (sym h ∙ z))))
 
   -- what was read as a frame is as long as one

@@ -156,7 +156,8 @@ module _ {A : Type 0} (read : A → ℕ → List ℕ → Answer A) (m : ℕ) (af
   -- what each good frame keeps, a good run keeps
   pub run-invariant :
       (I : ℕ → A → List ℕ → Type 0) (bound : ℕ) →
-      ((i : ℕ) (a : A) (s : List ℕ) → I i a s → i < bound → read a i s .fault ≡ 0 → I (i + 1) (read a i s .value) (drop (frameLength m) s)) →
+      ((i : ℕ) (a : A) (s : List ℕ) → I i a s → i < bound → read a i s .fault ≡ 0 →
+      I (i + 1) (read a i s .value) (drop (frameLength m) s)) →
       (n i : ℕ) (a : A) (s : List ℕ) → I i a s → i + n ≤ bound → framesFrom read m after n i a s .fault ≡ 0 →
       (b : A) × (r : List ℕ) × I (i + n) b r × (framesFrom read m after n i a s ≡ after b r)
   unfolding framesFrom

@@ -85,7 +85,8 @@ one-more n t k a s f e =
 all-nodes : (n : ℕ) (t : List ℕ) → behind n 0 n (drop (frameLength 2) t) .fault ≡ 0 →
     (behind n 0 n (drop (frameLength 2) t) ≡ fine n) × ((k : ℕ) → k < n → whole 5 4 (drop (place k) t) ≡ true) × (drop (place n) t ≡ [])
 all-nodes n t e =
-    let start : SoFar n t 0 n (drop (frameLength 2) t) = record { count = refl; rest = refl; nodes = λ j lt. absurd (not-suc-le-zero lt) } in
+    let start : SoFar n t 0 n (drop (frameLength 2) t) =
+    record { count = refl; rest = refl; nodes = λ j lt. absurd (not-suc-le-zero lt) } in
     let r =
     run-invariant readNode 4 (atEnd 0 refusal.TreeText) (SoFar n t) n (λ k a s f lt z. one-more n t k a s f z) n 0 n
     (drop (frameLength 2) t) start (omega arith) e
