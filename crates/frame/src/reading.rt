@@ -51,10 +51,10 @@ pub fn is_whole(s: &[u8], kind: u8, n: u8) -> bool
 }
 
 // One frame judged: the text's refusal where it is not whole, before that of its values.
-pub fn frame_fault(text: Refusal, whole: bool, values: Refusal, good: bool) -> Judged
-    ensures { λ r. ⌜ judgedNumber r ≡ frameFault text whole values good ⌝ }
+pub fn frame_fault(text: Refusal, framed: bool, values: Refusal, good: bool) -> Judged
+    ensures { λ r. ⌜ judgedNumber r ≡ frameFault text framed values good ⌝ }
 {
-    if !whole {
+    if !framed {
         return Judged::Refused(text);
     }
     if !good {

@@ -1,9 +1,9 @@
 -- Definitions: a tree in memory, three bytes to a node. A reader must believe this file; nothing else knows where a node's bytes stand.
 use mathlib.Core.Bool.{Bool, _&&_}
 use mathlib.Core.List.{List, [], _∷_}
-use Prim.Native.Nat.{ℕ, _+_, _*_, _%_}
+use Prim.Native.Nat.{ℕ, _+_, _*_, _/_, _%_}
 use lib.Dec.{leb, eqb}
-use lib.ListN.{getD}
+use lib.ListN.{length, getD}
 use Rattle.tree.specs.declared.Node.{Node}
 
 -- the most nodes that a tree has, and the bytes that they take
@@ -16,6 +16,10 @@ mostBytes = 573
 -- a byte length: a multiple of 3 from 3 to 573
 unfoldable pub legalLength : ℕ → Bool
 legalLength n = eqb (n % 3) 0 && leb 3 n && leb n mostBytes
+
+-- how many nodes the bytes have
+abbrev pub nodeCount : List ℕ → ℕ
+nodeCount bs = length bs / 3
 
 -- slot, points, choices
 abbrev pub nodeBytes : Node → List ℕ

@@ -3,7 +3,7 @@ ghost use mathlib.Core.Path.{_≡_};
 ghost use Prim.Native.Nat.{_*_};
 ghost use lib.ListN.{getD};
 ghost use Rattle.plan.specs.Answer.{putAt};
-ghost use Rattle.tree.specs.Nodes.{legalLength, nodeBytes, nodeAt};
+ghost use Rattle.tree.specs.Nodes.{legalLength, nodeCount, nodeBytes, nodeAt};
 
 // What is done in a slot: the points performed and the choices made, as masks.
 pub struct Node {
@@ -17,6 +17,13 @@ pub fn legal_length(n: usize) -> bool
     ensures { λ r. ⌜ r ≡ legalLength n ⌝ }
 {
     (n % 3 == 0) & (3 <= n) & (n <= 573)
+}
+
+// How many nodes the bytes have.
+pub fn node_count(bytes: &[u8]) -> usize
+    ensures { λ r. ⌜ r ≡ nodeCount (now (bytes .entry)) ⌝ }
+{
+    bytes.len() / 3
 }
 
 // Byte i, and 0 past the end.

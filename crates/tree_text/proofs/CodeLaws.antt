@@ -25,11 +25,11 @@ use Rattle.frame.proofs.RunLaws.{answered-fine, filled-is}
 use Rattle.frame.proofs.ReadingLaws.{rest-is, answered-refused, frames-on}
 use Rattle.frame.proofs.WritingLaws.{sets-append, join-next, write-refused, write-short, write-done}
 use Rattle.tree.specs.declared.Node.{Node}
-use Rattle.tree.specs.Nodes.{mostBytes, legalLength, nodeBytes, nodeAt}
+use Rattle.tree.specs.Nodes.{nodeCount, mostBytes, legalLength, nodeBytes, nodeAt}
 use Rattle.tree_text.specs.declared.TreeRead.{TreeRead}
 use Rattle.tree_text.specs.declared.TreeRead.the-variants as tree-read
 use Rattle.tree_text.specs.TreeText.{treeHeadText, nodeText, treeText, writeTree, treeReadAnswer, readNode, readNodes, nodeIn, bytesIn, readTree, readTreeLeaves, writeTreeLeaves}
-use Rattle.tree_text.proofs.TreeTextLaws.{Reads, reads, node-fine, one-text, bytes-length, text-length, reads-whole}
+use Rattle.tree_text.proofs.TreeTextLaws.{node-reader, Reads, reads, node-fine, one-text, bytes-length, text-length, reads-whole}
 
 -- ---- answers
 
@@ -43,10 +43,10 @@ fine-is a n e = rw e (sym (answered-fine 0 0 n refl))
 
 -- a run of node frames goes on behind one that is whole
 pub nodes-on :
-    (n k : ℕ) (s : List ℕ) → k < n → readNode n k s .fault ≡ 0 →
-    framesFrom readNode 4 (atEnd 0 refusal.TreeText) (n - k) k n s
-    ≡ framesFrom readNode 4 (atEnd 0 refusal.TreeText) (n - (k + 1)) (k + 1) n (take (length s - 9) (drop 9 s))
-nodes-on n k s lt e = frames-on readNode 4 (atEnd 0 refusal.TreeText) n k n s lt (sym (node-fine n k s e .1)) refl
+    (n k : ℕ) (s : List ℕ) → k < n → readNode n s .fault ≡ 0 →
+    framesFrom node-reader 4 (atEnd 0 refusal.TreeText) (n - k) k n s
+    ≡ framesFrom node-reader 4 (atEnd 0 refusal.TreeText) (n - (k + 1)) (k + 1) n (take (length s - 9) (drop 9 s))
+nodes-on n k s lt e = frames-on node-reader 4 (atEnd 0 refusal.TreeText) n k n s lt (sym (node-fine n s e .1)) refl
 
 -- node k stored behind the nodes before it
 pub node-put :
@@ -98,7 +98,7 @@ module _ (bs : List ℕ) where
   node-text k = nodeText (nodeAt bs k)
 
   abbrev nodes : ℕ
-  nodes = length bs / 3
+  nodes = nodeCount bs
 
   abbrev lengthFault : ℕ
   lengthFault = unless (legalLength (length bs)) refusal.Shape

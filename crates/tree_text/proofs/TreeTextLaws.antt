@@ -18,20 +18,20 @@ use Rattle.plan.specs.Refusal.{refusalNumber}
 use Rattle.plan.specs.Answer.{unless, first, Answer, fine, refused, answered}
 use Rattle.plan.specs.Plan.{listed}
 use Rattle.frame.specs.Frame.{frameLength, valueAt, whole}
-use Rattle.frame.specs.Texts.{frameFault, framesFrom, atEnd}
+use Rattle.frame.specs.Texts.{frameFault, atEnd}
 use Rattle.frame.proofs.FrameLaws.{Bytes, bytes, bytes-append, value-back, whole-back, frame-behind, whole-said}
 use Rattle.frame.proofs.RunLaws.{frame-fault-of, then-each, run-each, frame-read, frame-read-is, at-end, at-end-is, then-goes, then-fine, run-back, run-invariant}
-use Rattle.tree.specs.Nodes.{mostNodes, mostBytes, legalLength, nodeBytes, nodeAt}
+use Rattle.tree.specs.Nodes.{nodeCount, mostNodes, mostBytes, legalLength, nodeBytes, nodeAt}
 use Rattle.tree.proofs.NodeLaws.{nodes-length, node-of-bytes, bytes-of-nodes, legal-is, legal-make}
-use Rattle.tree_text.specs.TreeText.{treeHeadText, nodeText, treeText, writeTree, readTree, readTreeHead, readNode, readNodes, nodeIn, bytesIn}
+use Rattle.tree_text.specs.TreeText.{treeHeadText, nodeText, treeText, writeTree, readTree, readTreeHead, readNode, readBehind, readNodes, nodeIn, bytesIn}
 
 -- where node k of a tree text stands
 abbrev place : ℕ → ℕ
 place k = frameLength 2 + frameLength 4 * k
 
--- what stands behind the head is read by this
-abbrev behind : ℕ → ℕ → ℕ → List ℕ → Answer ℕ
-behind = framesFrom readNode 4 (atEnd 0 refusal.TreeText)
+-- a node's number does not matter to its reader
+abbrev pub node-reader : ℕ → ℕ → List ℕ → Answer ℕ
+node-reader n k = readNode n
 
 -- ---- a text that reads
 
@@ -51,9 +51,9 @@ node-text : (s : List ℕ) → whole 5 4 s ≡ true → s ≡ nodeText (nodeIn s
 unfolding listed
 node-text s w = whole-said 5 3 s (lit< tt) w
 
-pub node-fine : (n k : ℕ) (s : List ℕ) → readNode n k s .fault ≡ 0 → (whole 5 4 s ≡ true) × (readNode n k s ≡ fine n)
+pub node-fine : (n : ℕ) (s : List ℕ) → readNode n s .fault ≡ 0 → (whole 5 4 s ≡ true) × (readNode n s ≡ fine n)
 unfolding readNode
-node-fine n k s e = let (w, _, is) = frame-read-is 0 refusal.TreeText refusal.TreeText (whole 5 4 s) true n e in (w, is)
+node-fine n s e = let (w, _, is) = frame-read-is 0 refusal.TreeText refusal.TreeText (whole 5 4 s) true n e in (w, is)
 
 end-fine : (n : ℕ) (s : List ℕ) → atEnd 0 refusal.TreeText n s .fault ≡ 0 → (s ≡ []) × (atEnd 0 refusal.TreeText n s ≡ fine n)
 end-fine n s e =
@@ -70,10 +70,10 @@ record SoFar (n : ℕ) (t : List ℕ) (k a : ℕ) (s : List ℕ) : Type 0 where
   rest : s ≡ drop (place k) t
   nodes : (j : ℕ) → j < k → whole 5 4 (drop (place j) t) ≡ true
 
-one-more : (n : ℕ) (t : List ℕ) (k a : ℕ) (s : List ℕ) → SoFar n t k a s → readNode a k s .fault ≡ 0 →
-    SoFar n t (k + 1) (readNode a k s .value) (drop (frameLength 4) s)
+one-more : (n : ℕ) (t : List ℕ) (k a : ℕ) (s : List ℕ) → SoFar n t k a s → readNode a s .fault ≡ 0 →
+    SoFar n t (k + 1) (readNode a s .value) (drop (frameLength 4) s)
 one-more n t k a s f e =
-    let w = node-fine a k s e in
+    let w = node-fine a s e in
     record {
       count = ap (λ (x : Answer ℕ). x .value) (w .1) ∙ f .count;
       rest = ap (drop (frameLength 4)) (f .rest) ∙ step-place k t;
@@ -82,13 +82,13 @@ one-more n t k a s f e =
           (λ ge. let z : j ≡ k = omega arith in rw z (ap (whole 5 4) (sym (f .rest)) ∙ w .0));
     }
 
-all-nodes : (n : ℕ) (t : List ℕ) → behind n 0 n (drop (frameLength 2) t) .fault ≡ 0 →
-    (behind n 0 n (drop (frameLength 2) t) ≡ fine n) × ((k : ℕ) → k < n → whole 5 4 (drop (place k) t) ≡ true) × (drop (place n) t ≡ [])
+all-nodes : (n : ℕ) (t : List ℕ) → readBehind n (drop (frameLength 2) t) .fault ≡ 0 →
+    (readBehind n (drop (frameLength 2) t) ≡ fine n) × ((k : ℕ) → k < n → whole 5 4 (drop (place k) t) ≡ true) × (drop (place n) t ≡ [])
 all-nodes n t e =
     let start : SoFar n t 0 n (drop (frameLength 2) t) =
     record { count = refl; rest = refl; nodes = λ j lt. absurd (not-suc-le-zero lt) } in
     let r =
-    run-invariant readNode 4 (atEnd 0 refusal.TreeText) (SoFar n t) n (λ k a s f lt z. one-more n t k a s f z) n 0 n
+    run-invariant node-reader 4 (atEnd 0 refusal.TreeText) (SoFar n t) n (λ k a s f lt z. one-more n t k a s f z) n 0 n
     (drop (frameLength 2) t) start (omega arith) e
     in
     let f = r .2 in
@@ -108,7 +108,7 @@ pub reads : (t : List ℕ) → readNodes t .fault ≡ 0 → Reads (valueAt t 1) 
 unfolding readNodes
 reads t e =
     let n = valueAt t 1 in
-    let next : ℕ → Answer ℕ = λ a. behind a 0 a (drop (frameLength 2) t) in
+    let next : ℕ → Answer ℕ = λ a. readBehind a (drop (frameLength 2) t) in
     let h = head-fine-is t (then-fine (readTreeHead t) next e) in
     let goes : readNodes t ≡ next n =
     then-goes (readTreeHead t) next (then-fine (readTreeHead t) next e) ∙ ap (λ (x : Answer ℕ). next (x .value)) (h .3)
@@ -162,7 +162,7 @@ module _ (bs : List ℕ) (all : Bytes bs) where
   abbrev piece : ℕ → List ℕ
   piece k = nodeText (nodeAt bs k)
 
-  node-back : (n k : ℕ) (r : List ℕ) → readNode n k (piece k ++ r) ≡ fine n
+  node-back : (n k : ℕ) (r : List ℕ) → readNode n (piece k ++ r) ≡ fine n
   unfolding readNode
   node-back n k r = frame-read 0 refusal.TreeText refusal.TreeText n (whole-back 5 (nodeBytes (nodeAt bs k)) r (node-bytes bs k all)) refl
 
@@ -175,21 +175,21 @@ module _ (bs : List ℕ) (all : Bytes bs) where
       (frame-read 0 refusal.TreeText refusal.TreeText n (whole-back 4 (n ∷ []) r b) (and-make (leb-yes 1 n s) (leb-yes n mostNodes m)))
 
   -- the nodes and nothing behind them
-  behind-back : (n : ℕ) → behind n 0 n (joinBelow n piece) ≡ fine n
+  behind-back : (n : ℕ) → readBehind n (joinBelow n piece) ≡ fine n
   behind-back n =
-      ap (behind n 0 n) (sym (append-nil (joinBelow n piece)))
-      ∙ run-back readNode 4 (atEnd 0 refusal.TreeText) n (λ k. n) piece [] (λ k lt r. node-back n k r) (λ k lt. refl)
+      ap (readBehind n) (sym (append-nil (joinBelow n piece)))
+      ∙ run-back node-reader 4 (atEnd 0 refusal.TreeText) n (λ k. n) piece [] (λ k lt r. node-back n k r) (λ k lt. refl)
       ∙ at-end 0 refusal.TreeText n
 
-  pub counts-back : legalLength (length bs) ≡ true → readNodes (treeText bs) ≡ fine (length bs / 3)
+  pub counts-back : legalLength (length bs) ≡ true → readNodes (treeText bs) ≡ fine (nodeCount bs)
   unfolding readNodes treeText
   counts-back e =
-      let n = length bs / 3 in
+      let n = nodeCount bs in
       let l = legal-is (length bs) e in
       let h = head-back n (joinBelow n piece) (l .some) (l .most) in
       then-goes (readTreeHead (treeText bs)) _ (ap (λ (x : Answer ℕ). x .fault) h)
-      ∙ ap (λ (x : Answer ℕ). behind (x .value) 0 (x .value) (drop (frameLength 2) (treeText bs))) h
-      ∙ ap (behind n 0 n) (frame-behind (4 ∷ n ∷ []) (joinBelow n piece))
+      ∙ ap (λ (x : Answer ℕ). readBehind (x .value) (drop (frameLength 2) (treeText bs))) h
+      ∙ ap (readBehind n) (frame-behind (4 ∷ n ∷ []) (joinBelow n piece))
       ∙ behind-back n
 
   node-in-back : (n k : ℕ) → k < n → nodeIn (drop (place k) (treeHeadText n ++ joinBelow n piece)) ≡ nodeAt bs k
@@ -203,19 +203,19 @@ module _ (bs : List ℕ) (all : Bytes bs) where
       in
       ap nodeIn e ∙ rw (v 1 (omega arith), v 2 (omega arith), v 3 (omega arith))
 
-  pub bytes-back : legalLength (length bs) ≡ true → bytesIn (length bs / 3) (treeText bs) ≡ bs
+  pub bytes-back : legalLength (length bs) ≡ true → bytesIn (nodeCount bs) (treeText bs) ≡ bs
   unfolding treeText
   bytes-back e =
-      let n = length bs / 3 in
+      let n = nodeCount bs in
       join-cong n _ _ (λ k lt. ap nodeBytes (node-in-back n k lt)) ∙ bytes-of-nodes n bs (legal-is (length bs) e .threes)
 
 -- ---- lengths
 
-pub text-length : (bs : List ℕ) → length (treeText bs) ≡ 5 + 9 * (length bs / 3)
+pub text-length : (bs : List ℕ) → length (treeText bs) ≡ 5 + 9 * (nodeCount bs)
 unfolding treeText
 text-length bs =
-    let e = join-length (length bs / 3) 9 (λ k. nodeText (nodeAt bs k)) (λ k lt. refl) in
-    length-append (treeHeadText (length bs / 3)) (joinBelow (length bs / 3) (λ k. nodeText (nodeAt bs k))) ∙ ap (λ (m : ℕ). 5 + m) e
+    let e = join-length (nodeCount bs) 9 (λ k. nodeText (nodeAt bs k)) (λ k lt. refl) in
+    length-append (treeHeadText (nodeCount bs)) (joinBelow (nodeCount bs) (λ k. nodeText (nodeAt bs k))) ∙ ap (λ (m : ℕ). 5 + m) e
 
 -- ---- the calls where nothing is refused
 
@@ -263,9 +263,9 @@ head-refused : (s : List ℕ) → Refused (readTreeHead s)
 unfolding readTreeHead
 head-refused s = frame-refused _ _ _
 
-node-refused : (n k : ℕ) (s : List ℕ) → Refused (readNode n k s)
+node-refused : (n : ℕ) (s : List ℕ) → Refused (readNode n s)
 unfolding readNode
-node-refused n k s = frame-refused _ _ _
+node-refused n s = frame-refused _ _ _
 
 text-fault : (b : Bool) → OneFault (unless b refusal.TreeText)
 unfolding unless
@@ -280,4 +280,4 @@ pub nodes-refused : (t : List ℕ) → Refused (readNodes t)
 unfolding readNodes
 nodes-refused t =
     then-each Refused (readTreeHead t) _ (head-refused t) (λ n.
-    run-each readNode 4 (atEnd 0 refusal.TreeText) Refused node-refused end-refused n 0 n (drop (frameLength 2) t))
+    run-each node-reader 4 (atEnd 0 refusal.TreeText) Refused (λ n k. node-refused n) end-refused n 0 n (drop (frameLength 2) t))

@@ -4,14 +4,14 @@ use mathlib.Core.Path.{_≡_, refl, sym, ap, _∙_}
 use mathlib.Core.Logic.{_↔_}
 use mathlib.Core.Bool.{true}
 use mathlib.Core.List.{List, _++_}
-use Prim.Native.Nat.{ℕ, _≤_, _*_, _/_}
+use Prim.Native.Nat.{ℕ, _≤_, _*_}
 use native.Mathlib.Omega.{arith}
 use lib.ListN.{length, drop, take, replicate}
 use Rattle.plan.specs.declared.Refusal.the-variants as refusal
 use Rattle.plan.specs.Answer.{Answer, fine, refused, filled}
 use Rattle.frame.proofs.FrameLaws.{Bytes}
 use Rattle.frame.proofs.RunLaws.{filled-is, filled-front}
-use Rattle.tree.specs.Nodes.{mostBytes, legalLength}
+use Rattle.tree.specs.Nodes.{nodeCount, mostBytes, legalLength}
 use Rattle.tree.proofs.NodeLaws.{legal-is}
 use Rattle.tree_text.specs.TreeText.{treeText, writeTree, readNodes, bytesIn, readTree, readTreeLeaves, writeTreeLeaves}
 use Rattle.tree_text.proofs.TreeTextLaws.{reads, one-text, bytes-length, bytes-in-bytes, reads-legal, counts-back, bytes-back, writes, reads-whole, text-length, nodes-refused}
@@ -19,7 +19,7 @@ use Rattle.tree_text.proofs.TreeTextLaws.{reads, one-text, bytes-length
 -- A text reads as a tree of these bytes exactly where it is their text and they have a legal length. (`Bytes`: every entry is below 256.)
 pub read-exactly :
     (t bs : List ℕ) → Bytes bs →
-    ((readNodes t ≡ fine (length bs / 3)) × (bytesIn (length bs / 3) t ≡ bs)) ↔ ((t ≡ treeText bs) × (legalLength (length bs) ≡ true))
+    ((readNodes t ≡ fine (nodeCount bs)) × (bytesIn (nodeCount bs) t ≡ bs)) ↔ ((t ≡ treeText bs) × (legalLength (length bs) ≡ true))
 read-exactly t bs h = (
   λ e.
       let r = reads t (ap (λ (x : Answer ℕ). x .fault) (e .0)) in
@@ -27,7 +27,7 @@ read-exactly t bs h = (
       let b = ap (λ (m : ℕ). bytesIn m t) n ∙ e .1 in
       (one-text _ t r ∙ ap treeText b, ap (λ (x : List ℕ). legalLength (length x)) (sym b) ∙ reads-legal _ t r),
   λ e.
-      (ap readNodes (e .0) ∙ counts-back bs h (e .1), ap (bytesIn (length bs / 3)) (e .0) ∙ bytes-back bs h (e .1)),
+      (ap readNodes (e .0) ∙ counts-back bs h (e .1), ap (bytesIn (nodeCount bs)) (e .0) ∙ bytes-back bs h (e .1)),
 )
 
 -- whatever reads is such a text: of the bytes that are read from it, three to a node
@@ -53,7 +53,7 @@ pub written-reads-back :
     (writeTree bs xs ≡ fine (length (treeText bs)))
     × ((ys : List ℕ) → mostBytes ≤ length ys →
     let t = take (writeTree bs xs .value) (writeTreeLeaves bs xs) in
-    (readTree t ys ≡ fine (length bs / 3))
+    (readTree t ys ≡ fine (nodeCount bs))
     × (readTreeLeaves t ys ≡ bs ++ drop (length bs) ys))
 written-reads-back bs h e xs room =
     let t = treeText bs in
@@ -61,7 +61,7 @@ written-reads-back bs h e xs room =
     let back : take (writeTree bs xs .value) (filled (writeTree bs xs .fault) t xs) ≡ t =
     ap (λ (x : Answer ℕ). take (x .value) (filled (x .fault) t xs)) w ∙ filled-front t xs
     in
-    let n = length bs / 3 in
+    let n = nodeCount bs in
     let read : (ys : List ℕ) → mostBytes ≤ length ys → readTree t ys ≡ fine n = λ ys long. reads-whole t n ys (counts-back bs h e) long in (
       w,
       λ ys long. (

@@ -1,7 +1,7 @@
 -- Definitions: the text of a tree, writing it, and the tree that a text says. A reader must believe this file.
 use mathlib.Core.Bool.{true, _&&_}
 use mathlib.Core.List.{List, [], _∷_, _++_}
-use Prim.Native.Nat.{ℕ, _+_, _*_, _/_}
+use Prim.Native.Nat.{ℕ, _+_, _*_}
 use lib.Dec.{leb}
 use lib.ListN.{length, drop}
 use Rattle.network.specs.Mask.{joinBelow}
@@ -10,7 +10,7 @@ use Rattle.plan.specs.Answer.{unless, first, Answer, fine, refused, answered, a
 use Rattle.frame.specs.Frame.{frameLength, frameText, valueAt, whole}
 use Rattle.frame.specs.Texts.{frameFault, framesFrom, atEnd, roomFault}
 use Rattle.tree.specs.declared.Node.{Node}
-use Rattle.tree.specs.Nodes.{mostNodes, mostBytes, legalLength, nodeBytes, nodeAt}
+use Rattle.tree.specs.Nodes.{mostNodes, mostBytes, legalLength, nodeCount, nodeBytes, nodeAt}
 use Rattle.tree_text.specs.declared.TreeRead.{TreeRead}
 use Rattle.tree_text.specs.declared.TreeRead.the-variants as tree-read
 
@@ -26,7 +26,7 @@ nodeText v = frameText (5 ∷ nodeBytes v)
 
 -- one 04, then its 05s
 unfoldable pub treeText : List ℕ → List ℕ
-treeText bs = treeHeadText (length bs / 3) ++ joinBelow (length bs / 3) (λ k. nodeText (nodeAt bs k))
+treeText bs = treeHeadText (nodeCount bs) ++ joinBelow (nodeCount bs) (λ k. nodeText (nodeAt bs k))
 
 -- 6 for the length, then 10; else the text's length
 unfoldable pub writeTree : List ℕ → List ℕ → Answer ℕ
@@ -49,14 +49,17 @@ readTreeHead s =
     let good = leb 1 (valueAt s 1) && leb (valueAt s 1) mostNodes in
     answered 0 (frameFault refusal.TreeText (whole 4 2 s) refusal.TreeText good) (valueAt s 1)
 
--- any three bytes will do for a node
-unfoldable pub readNode : ℕ → ℕ → List ℕ → Answer ℕ
-readNode n k s = answered 0 (frameFault refusal.TreeText (whole 5 4 s) refusal.TreeText true) n
+-- one node behind a head that says n: any three bytes will do
+unfoldable pub readNode : ℕ → List ℕ → Answer ℕ
+readNode n s = answered 0 (frameFault refusal.TreeText (whole 5 4 s) refusal.TreeText true) n
 
--- one head, its nodes, and nothing more
+-- the n nodes behind it, and nothing more
+abbrev pub readBehind : ℕ → List ℕ → Answer ℕ
+readBehind n s = framesFrom (λ m k. readNode m) 4 (atEnd 0 refusal.TreeText) n 0 n s
+
+-- one head and its nodes
 unfoldable pub readNodes : List ℕ → Answer ℕ
-readNodes s =
-    andThen (readTreeHead s) (λ n. framesFrom readNode 4 (atEnd 0 refusal.TreeText) n 0 n (drop (frameLength 2) s))
+readNodes s = andThen (readTreeHead s) (λ n. readBehind n (drop (frameLength 2) s))
 
 -- the node at the front of s
 abbrev pub nodeIn : List ℕ → Node

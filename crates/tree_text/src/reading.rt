@@ -13,8 +13,8 @@ ghost use Rattle.plan.specs.declared.Refusal.the-variants as refusal;
 ghost use Rattle.plan.specs.Refusal.{judgedNumber};
 ghost use Rattle.plan.specs.Answer.{answered};
 ghost use Rattle.frame.specs.Frame.{frameLength};
-ghost use Rattle.frame.specs.Texts.{framesFrom, atEnd};
-ghost use Rattle.tree_text.specs.TreeText.{treeReadAnswer, readTreeHead, readNode, readNodes, nodeIn, bytesIn, readTree, readTreeLeaves};
+ghost use Rattle.frame.specs.Texts.{atEnd};
+ghost use Rattle.tree_text.specs.TreeText.{treeReadAnswer, readTreeHead, readNode, readBehind, readNodes, nodeIn, bytesIn, readTree, readTreeLeaves};
 
 // n nodes beside fine.
 fn answered_nodes(answer: Judged, n: u8) -> TreeRead
@@ -36,9 +36,9 @@ fn read_head(s: &[u8]) -> TreeRead
     answered_nodes(answer, n)
 }
 
-// Node k of n.
-fn read_node(s: &[u8], n: u8, k: u8) -> TreeRead
-    ensures { λ r. ⌜ treeReadAnswer r ≡ readNode n k (now (s .entry)) ⌝ }
+// One node behind a head that says n.
+fn read_node(s: &[u8], n: u8) -> TreeRead
+    ensures { λ r. ⌜ treeReadAnswer r ≡ readNode n (now (s .entry)) ⌝ }
 {
     let whole = reading::is_whole(s, 5, 4);
     let answer = reading::frame_fault(Refusal::TreeText, whole, Refusal::TreeText, true);
@@ -57,12 +57,12 @@ fn read_end(s: &[u8], n: u8) -> TreeRead
 
 // The nodes behind a head that says n, and then the end.
 fn read_behind(s: &[u8], n: u8) -> TreeRead
-    ensures { λ r. ⌜ treeReadAnswer r ≡ framesFrom readNode 4 (atEnd 0 refusal.TreeText) n 0 n (now (s .entry)) ⌝ }
+    ensures { λ r. ⌜ treeReadAnswer r ≡ readBehind n (now (s .entry)) ⌝ }
 {
     let mut rest = s;
     let mut k: u8 = 0;
     while k < n {
-        let next = read_node(rest, n, k);
+        let next = read_node(rest, n);
         let TreeRead::Nodes(_) = next else {
             return next;
         };

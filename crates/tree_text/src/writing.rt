@@ -47,11 +47,12 @@ pub fn write_tree(bytes: &[u8], out: &mut [u8]) -> Written
     if !tree::legal_length(bytes.len()) {
         return Written::Refused(Refusal::Shape);
     }
-    let nodes = bytes.len() / 3;
+    let nodes = tree::node_count(bytes);
     let size = 5 + 9 * nodes;
     if out.len() < size {
         return Written::Refused(Refusal::Buffer);
     }
+    // 191 at most: the remainder only makes it a byte
     let n = (nodes % 256) as u8;
     put_head(out, n);
     put_node_frames(out, bytes, n);

@@ -10,6 +10,7 @@ use Rattle.frame.specs.Texts.{framesFrom, atEnd}
 use Rattle.frame.proofs.RunLaws.{frames-end}
 use Rattle.frame.proofs.ReadingLaws.{read-long, frames-stop}
 use Rattle.tree_text.specs.TreeText.{treeReadAnswer, readNode}
+use Rattle.tree_text.proofs.TreeTextLaws.{node-reader}
 use Rattle.tree_text.proofs.CodeLaws.{nodes-on}
 use Rattle.tree_text.proofs.reading.read_behind.Statement.{statement}
 use Rattle.tree_text.proofs.reading.read_behind.Tie as tie
@@ -22,7 +23,7 @@ abbrev fault : Answer ℕ → ℕ
 fault a = a .fault
 
 abbrev Inv-loop : tie.InvT-loop
-Inv-loop s n rest₀ k₀ rest k = (k ≤ n) × (framesFrom readNode 4 end n 0 n s ≡ framesFrom readNode 4 end (n - k) k n rest)
+Inv-loop s n rest₀ k₀ rest k = (k ≤ n) × (framesFrom node-reader 4 end n 0 n s ≡ framesFrom node-reader 4 end (n - k) k n rest)
 
 abbrev μ-loop : tie.MeasureT-loop
 μ-loop s n rest₀ k₀ rest k = n - k
@@ -44,7 +45,7 @@ returns c =
     let n = c .before .before .before .before .before .before .args .n in
     let l = c .before .before .before .before .loop in
     let g = c .enum-told2 .given in
-    frames-stop readNode 4 end n (l .k) n (l .rest .now) (search needs) (g .0 .0) (c .before .before .read-node .ensures)
+    frames-stop node-reader 4 end n (l .k) n (l .rest .now) (search needs) (g .0 .0) (c .before .before .read-node .ensures)
     (ap (λ r. fault (treeReadAnswer r)) (g .1))
     ∙ sym (l .inv .1)
 
@@ -80,7 +81,7 @@ returns-2 : tie.Need-returns-2 Inv-loop μ-loop
 returns-2 c =
     let n = c .before .before .before .before .args .n in
     let l = c .before .before .loop in
-    c .read-end .ensures ∙ sym (l .inv .1 ∙ frames-end readNode 4 end n (l .k) n (l .rest .now) (search needs))
+    c .read-end .ensures ∙ sym (l .inv .1 ∙ frames-end node-reader 4 end n (l .k) n (l .rest .now) (search needs))
 
 pub read-behind-spec : {M : Type 1} → statement M
 read-behind-spec =
