@@ -1,18 +1,23 @@
 -- Theorems on plan texts: they read back exactly, and each plan has one text only. Read the statements; only the checker need believe the
 -- proofs.
-use mathlib.Core.Path.{_≡_, ap, _∙_}
+use mathlib.Core.Path.{_≡_, sym, ap, _∙_}
 use mathlib.Core.Logic.{_↔_}
 use mathlib.Core.List.{List}
 use Prim.Native.Nat.{ℕ, _≤_}
 use native.Mathlib.Omega.{arith}
 use lib.ListN.{length, take}
 use Rattle.plan.specs.declared.Plan.{Plan}
-use Rattle.plan.specs.Answer.{fine}
+use Rattle.plan.specs.declared.Judged.{Judged}
+use Rattle.plan.specs.declared.Judged.the-variants as judged
+use Rattle.plan.specs.Refusal.{judgedNumber}
+use Rattle.plan.specs.Answer.{Answer, fine}
 use Rattle.plan.specs.Plan.{zeroPlan}
 use Rattle.plan.specs.WellFormed.{WellFormed}
+use Rattle.plan.proofs.RefusalLaws.{fine-is}
 use Rattle.frame.proofs.RunLaws.{filled-front}
+use Rattle.plan_text.specs.declared.PlanRead.{PlanRead}
 use Rattle.plan_text.specs.PlanText.{planText, writePlan, writePlanLeaves}
-use Rattle.plan_text.specs.ReadPlan.{readPlan}
+use Rattle.plan_text.specs.ReadPlan.{planReadAnswer, readPlan}
 use Rattle.plan_text.proofs.LengthLaws.{plan-length, longest, longest-fine}
 use Rattle.plan_text.proofs.ReadBackLaws.{read-back}
 use Rattle.plan_text.proofs.OneTextLaws.{one-text}
@@ -25,6 +30,17 @@ pub read-exactly :
     (t : List ℕ) (p : Plan) → (readPlan t ≡ fine p)
     ↔ ((t ≡ planText p) × WellFormed p × (length (p .letter) ≡ 6) × (length (p .constraint) ≡ 64))
 read-exactly t p = (one-text t p, λ h. ap readPlan (h .0) ∙ read-back p (h .1) (h .2) (h .3))
+
+-- the same of what `read_plan` hands back, by its promise
+pub read-fine-exactly :
+    (t : List ℕ) (r : PlanRead) → planReadAnswer r ≡ readPlan t → length (r .plan .letter) ≡ 6 → length (r .plan .constraint) ≡ 64 →
+    (r .answer ≡ judged.Fine) ↔ ((t ≡ planText (r .plan)) × WellFormed (r .plan))
+read-fine-exactly t r e six sixty-four = (
+  λ f.
+      let h = read-exactly t (r .plan) .0 (sym e ∙ ap (λ (a : Judged). record { fault = judgedNumber a; value = r .plan }) f) in
+      (h .0, h .1),
+  λ h. fine-is (r .answer) (ap (λ (a : Answer Plan). a .fault) (e ∙ read-exactly t (r .plan) .1 (h .0, h .1, six, sixty-four))),
+)
 
 -- a text that is refused is refused with 1, 2, 3 or 4, and the plan's place is all zero
 pub refused-zero : (t : List ℕ) → ¬ (readPlan t .fault ≡ 0) → (readPlan t .fault ≤ 4) × (readPlan t .value ≡ zeroPlan)
