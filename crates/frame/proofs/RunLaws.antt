@@ -35,15 +35,20 @@ pub frame-fine : (text values : Refusal) {w g : Bool} → w ≡ true → g ≡ t
 unfolding frameFault first unless
 frame-fine text values e f = rw (e, f)
 
--- a frame's fault is one of its two refusals'
+-- a test's fault is none or its refusal's, a frame's none or one of its two refusals'
+pub unless-of : (P : ℕ → Type 0) (b : Bool) (r : Refusal) → P 0 → P (refusalNumber r) → P (unless b r)
+unfolding unless
+unless-of P true r none t = none
+unless-of P false r none t = t
+
 pub frame-fault-of :
     (P : ℕ → Type 0) (text values : Refusal) (w g : Bool) → P 0 → P (refusalNumber text) → P (refusalNumber values) →
     P (frameFault text w values g)
-unfolding frameFault first unless
-frame-fault-of P text values true true none t v = none
-frame-fault-of P text values true false none t v = v
-frame-fault-of P text values false g none t v =
-    by-test (eqb (refusalNumber text) 0) (λ z. absurd (no-refusal text (eqb-is (refusalNumber text) 0 z))) (λ z. rw z t)
+unfolding frameFault first
+frame-fault-of P text values w g none t v =
+    by-test (eqb (unless w text) 0)
+    (λ z. rw z (unless-of P g values none v))
+    (λ z. rw z (unless-of P w text none t))
 
 -- ---- answers
 

@@ -2,28 +2,20 @@
 use crate::hex;
 use plan::Judged;
 use plan::Refusal;
+use plan::bytes;
 ghost use mathlib.Core.Path.{_≡_};
-ghost use lib.ListN.{getD};
 ghost use Rattle.plan.specs.Refusal.{judgedNumber};
 ghost use Rattle.frame.specs.Frame.{byteAt, valueAt, whole};
 ghost use Rattle.frame.specs.Texts.{frameFault};
-
-// Character i of the text, and 0 past its end.
-fn char_at(s: &[u8], i: usize) -> u8
-    ensures { λ r. ⌜ r ≡ getD (now (s .entry)) i 0 ⌝ }
-{
-    if i < s.len() {
-        return s[i];
-    }
-    0
-}
 
 // Byte k of the frame, and 256 where two digits do not stand there.
 fn byte_at(s: &[u8], k: u8) -> u16
     ensures { λ r. ⌜ r ≡ byteAt (now (s .entry)) k ⌝ }
 {
     let i = 2 * (k as usize);
-    hex::pair(hex::digit(char_at(s, i)), hex::digit(char_at(s, i + 1)))
+    let high = bytes::byte_or_zero(s, i);
+    let low = bytes::byte_or_zero(s, i + 1);
+    hex::pair(hex::digit(high), hex::digit(low))
 }
 
 // Byte k of a frame that is whole.
@@ -47,7 +39,7 @@ pub fn is_whole(s: &[u8], kind: u8, n: u8) -> bool
         }
         k += 1;
     }
-    char_at(s, 2 * (n as usize)) == 10
+    bytes::byte_or_zero(s, 2 * (n as usize)) == 10
 }
 
 // One frame judged: the text's refusal where it is not whole, before that of its values.

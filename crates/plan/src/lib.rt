@@ -1,4 +1,5 @@
 // The plan record, the refusals, the judge of a record, masks and letters, the label test and what it is to keep a constraint.
+pub mod bytes;
 pub mod constraints;
 pub mod judge;
 pub mod letters;

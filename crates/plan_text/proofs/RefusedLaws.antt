@@ -1,5 +1,5 @@
 -- Laws of refused plan texts: by which numbers, and that the plan is then all zero. Only the checker need believe this file.
-use mathlib.Core.Bool.{Bool, true, false}
+use mathlib.Core.Bool.{Bool}
 use mathlib.Core.List.{List}
 use Prim.Native.Nat.{ℕ, _≤_}
 use native.Mathlib.Omega.{arith}
@@ -13,7 +13,7 @@ use Rattle.plan.specs.Answer.{unless, Answer, answered}
 use Rattle.plan.specs.Plan.{zeroPlan}
 use Rattle.frame.specs.Frame.{frameLength}
 use Rattle.frame.specs.Texts.{frameFault, atEnd}
-use Rattle.frame.proofs.RunLaws.{frame-fault-of, ZeroBeside, answered-fault, answered-zero, then-each, run-each}
+use Rattle.frame.proofs.RunLaws.{unless-of, frame-fault-of, ZeroBeside, answered-fault, answered-zero, then-each, run-each}
 use Rattle.plan_text.specs.ReadPlan.{readHead, readLetter, readConstraint, readConstraints, readPlan}
 
 -- none of the numbers past 4, and zeros beside a fault
@@ -41,16 +41,11 @@ constraint-refused : (p : Plan) (j : ℕ) (s : List ℕ) → Refused (readConstr
 unfolding readConstraint
 constraint-refused p j s = frame-refused refusal.Constraints _ _ _ (omega arith)
 
-text-fault : (b : Bool) → unless b refusal.PlanText ≤ 4
-unfolding unless
-text-fault true = omega arith
-text-fault false = omega arith
-
 end-refused : (p : Plan) (s : List ℕ) → Refused (atEnd zeroPlan refusal.PlanText p s)
 unfolding atEnd
 end-refused p s =
     let n = unless (eqb (length s) 0) refusal.PlanText in
-    (rw (answered-fault zeroPlan n p) (text-fault (eqb (length s) 0)), answered-zero zeroPlan n p)
+    (rw (answered-fault zeroPlan n p) (unless-of (λ k. k ≤ 4) (eqb (length s) 0) refusal.PlanText (omega arith) (omega arith)), answered-zero zeroPlan n p)
 
 constraints-refused : (p : Plan) (s : List ℕ) → Refused (readConstraints p s)
 constraints-refused p s =

@@ -1,15 +1,11 @@
 -- Laws of a node as the code stores it. Only the checker need believe this file.
 use mathlib.Core.Path.{_≡_}
 use mathlib.Core.List.{List, [], _∷_}
-use Prim.Native.Nat.{ℕ, suc, _+_}
-use native.Mathlib.Omega.{arith}
-use native.Mathlib.Numerals.{add-one}
+use Prim.Native.Nat.{ℕ, _+_}
+use native.Mathlib.Numerals.{add-one, add-two}
 use lib.ListN.{set}
 use lib.Seq.{sets}
 
-two-more : (i : ℕ) → i + 2 ≡ suc (suc i)
-two-more i = omega arith
-
 -- three bytes, as lib.Seq stores a list: the next place is `suc i` there and `i + 1` in the code
 pub put-three : (xs : List ℕ) (i a b c : ℕ) → set (set (set xs i a) (i + 1) b) (i + 2) c ≡ sets xs i (a ∷ b ∷ c ∷ [])
-put-three xs i a b c = rw (add-one, two-more)
+put-three xs i a b c = rw (add-one, add-two)

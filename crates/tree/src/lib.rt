@@ -1,7 +1,7 @@
 // A tree in memory: its nodes as bytes, three to a node.
+use plan::bytes;
 ghost use mathlib.Core.Path.{_≡_};
 ghost use Prim.Native.Nat.{_*_};
-ghost use lib.ListN.{getD};
 ghost use Rattle.plan.specs.Answer.{putAt};
 ghost use Rattle.tree.specs.Nodes.{legalLength, nodeCount, nodeBytes, nodeAt};
 
@@ -26,25 +26,15 @@ pub fn node_count(bytes: &[u8]) -> usize
     bytes.len() / 3
 }
 
-// Byte i, and 0 past the end.
-fn byte_or_zero(bytes: &[u8], i: usize) -> u8
-    ensures { λ r. ⌜ r ≡ getD (now (bytes .entry)) i 0 ⌝ }
-{
-    if i < bytes.len() {
-        return bytes[i];
-    }
-    0
-}
-
 // Node k of the bytes; zeros past their end.
-pub fn node_at(bytes: &[u8], k: u8) -> Node
-    ensures { λ r. ⌜ r ≡ nodeAt (now (bytes .entry)) k ⌝ }
+pub fn node_at(nodes: &[u8], k: u8) -> Node
+    ensures { λ r. ⌜ r ≡ nodeAt (now (nodes .entry)) k ⌝ }
 {
     let i = 3 * (k as usize);
     Node {
-        slot: byte_or_zero(bytes, i),
-        points: byte_or_zero(bytes, i + 1),
-        choices: byte_or_zero(bytes, i + 2),
+        slot: bytes::byte_or_zero(nodes, i),
+        points: bytes::byte_or_zero(nodes, i + 1),
+        choices: bytes::byte_or_zero(nodes, i + 2),
     }
 }
 

@@ -1,7 +1,7 @@
 -- Laws of tree texts: what reads is a text of bytes, and such a text reads back. Only the checker need believe this file.
 use mathlib.Core.Path.{_≡_, refl, sym, ap, _∙_}
 use mathlib.Core.Logic.{by-cases, _⊎_, inl, inr}
-use mathlib.Core.Bool.{Bool, true, false, _&&_}
+use mathlib.Core.Bool.{Bool, true, _&&_}
 use mathlib.Core.List.{List, [], _∷_, _++_, append-assoc, append-nil}
 use Prim.Native.Nat.{ℕ, zero, suc, _+_, _*_, _/_, _≤_, _<_}
 use native.Mathlib.Omega.{arith}
@@ -20,7 +20,7 @@ use Rattle.plan.specs.Plan.{listed}
 use Rattle.frame.specs.Frame.{frameLength, valueAt, whole}
 use Rattle.frame.specs.Texts.{frameFault, atEnd}
 use Rattle.frame.proofs.FrameLaws.{Bytes, bytes, bytes-append, value-back, whole-back, frame-behind, whole-said}
-use Rattle.frame.proofs.RunLaws.{frame-fault-of, then-each, run-each, frame-read, frame-read-is, at-end, at-end-is, then-goes, then-fine, run-back, run-invariant}
+use Rattle.frame.proofs.RunLaws.{unless-of, frame-fault-of, then-each, run-each, frame-read, frame-read-is, at-end, at-end-is, then-goes, then-fine, run-back, run-invariant}
 use Rattle.tree.specs.Nodes.{nodeCount, mostNodes, mostBytes, legalLength, nodeBytes, nodeAt}
 use Rattle.tree.proofs.NodeLaws.{nodes-length, node-of-bytes, bytes-of-nodes, legal-is, legal-make}
 use Rattle.tree_text.specs.TreeText.{treeHeadText, nodeText, treeText, writeTree, readTree, readTreeHead, readNode, readBehind, readNodes, nodeIn, bytesIn}
@@ -267,14 +267,9 @@ node-refused : (n : ℕ) (s : List ℕ) → Refused (readNode n s)
 unfolding readNode
 node-refused n s = frame-refused _ _ _
 
-text-fault : (b : Bool) → OneFault (unless b refusal.TreeText)
-unfolding unless
-text-fault true = inl refl
-text-fault false = inr refl
-
 end-refused : (n : ℕ) (s : List ℕ) → Refused (atEnd 0 refusal.TreeText n s)
 unfolding atEnd
-end-refused n s = refused-so _ n (text-fault (eqb (length s) 0))
+end-refused n s = refused-so _ n (unless-of OneFault (eqb (length s) 0) refusal.TreeText (inl refl) (inr refl))
 
 pub nodes-refused : (t : List ℕ) → Refused (readNodes t)
 unfolding readNodes

@@ -7,17 +7,17 @@ use Rattle.frame.proofs.reading.byte_at.Tie as tie
 mul-i : tie.Need-mul-i
 mul-i c = search needs
 
-char-at-requires : tie.Need-char-at-requires
-char-at-requires c κs = search needs
+byte-or-zero-requires : tie.Need-byte-or-zero-requires
+byte-or-zero-requires c κs = search needs
+
+add-byte-or-zero : tie.Need-add-byte-or-zero
+add-byte-or-zero c = search needs
+
+byte-or-zero-requires-2 : tie.Need-byte-or-zero-requires-2
+byte-or-zero-requires-2 c κs = search needs
 
 digit-requires : tie.Need-digit-requires
 digit-requires c κs = search needs
-
-add-char-at : tie.Need-add-char-at
-add-char-at c = search needs
-
-char-at-requires-2 : tie.Need-char-at-requires-2
-char-at-requires-2 c κs = search needs
 
 digit-requires-2 : tie.Need-digit-requires-2
 digit-requires-2 c κs = search needs
@@ -34,10 +34,10 @@ byte-at-spec =
     tie.close
     (tie.spec
     mul-i
-    char-at-requires
+    byte-or-zero-requires
+    add-byte-or-zero
+    byte-or-zero-requires-2
     digit-requires
-    add-char-at
-    char-at-requires-2
     digit-requires-2
     pair-requires
     returns)

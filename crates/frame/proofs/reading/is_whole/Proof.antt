@@ -50,18 +50,18 @@ loop-again c =
     let l = c .before .before .before .loop in
     (search needs, l .inv .1, all-next _ (l .k) (l .inv .2) (rw (← c .before .byte-at2 .ensures) (lt-ltb _ _ (c .if2 .left))))
 
-mul-char-at : tie.Need-mul-char-at Inv-loop μ-loop
-mul-char-at c = search needs
+mul-byte-or-zero : tie.Need-mul-byte-or-zero Inv-loop μ-loop
+mul-byte-or-zero c = search needs
 
-char-at-requires : tie.Need-char-at-requires Inv-loop μ-loop
-char-at-requires c κs = search needs
+byte-or-zero-requires : tie.Need-byte-or-zero-requires Inv-loop μ-loop
+byte-or-zero-requires c κs = search needs
 
 returns-3 : tie.Need-returns-3 Inv-loop μ-loop
 returns-3 c =
     let a = c .before .before .before .before .before .before .args in
     let l = c .before .before .loop in
     let e : l .k ≡ a .n = omega arith in
-    rw (c .char-at .ensures) (up-to-feed (a .kind) (a .n) (now (a .s)) (l .inv .1) (rw e at (l .inv .2)))
+    rw (c .byte-or-zero .ensures) (up-to-feed (a .kind) (a .n) (now (a .s)) (l .inv .1) (rw e at (l .inv .2)))
 
 pub is-whole-spec : {M : Type 1} → statement M
 is-whole-spec =
@@ -77,6 +77,6 @@ is-whole-spec =
     add-k
     loop-less
     loop-again
-    mul-char-at
-    char-at-requires
+    mul-byte-or-zero
+    byte-or-zero-requires
     returns-3)
