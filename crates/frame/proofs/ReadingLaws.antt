@@ -4,24 +4,16 @@ use mathlib.Core.Path.{_≡_, sym, ap, _∙_}
 use mathlib.Core.Bool.{Bool}
 use mathlib.Core.List.{List}
 use Prim.Native.Nat.{ℕ, _+_, _-_, _≤_, _<_}
-use native.Mathlib.Omega.{arith}
-use lib.ListN.{length, take, drop, length-drop}
-use lib.Seq.{take-all}
+use lib.ListN.{length}
 use Rattle.plan.specs.declared.Refusal.{Refusal}
 use Rattle.plan.specs.Refusal.{refusalNumber}
 use Rattle.plan.specs.Answer.{Answer, refused, answered, andThen}
 use Rattle.plan.proofs.RefusalLaws.{no-refusal, some-number}
+use Rattle.plan.proofs.SliceLaws.{rest, rest-is}
 use Rattle.frame.specs.Frame.{frameLength, whole}
 use Rattle.frame.specs.Texts.{frameFault, framesFrom}
 use Rattle.frame.proofs.FrameLaws.{whole-long}
 use Rattle.frame.proofs.RunLaws.{then-goes, then-stops, frame-read-is, frames-step}
-
--- the part `&s[n..]` of a slice
-abbrev rest : ℕ → List ℕ → List ℕ
-rest n s = take (length s - n) (drop n s)
-
-pub rest-is : (n : ℕ) (s : List ℕ) → rest n s ≡ drop n s
-rest-is n s = take-all (length s - n) (drop n s) (rw length-drop (omega arith))
 
 module _ {A : Type 0} where
   pub answered-refused : (zeros a : A) (r : Refusal) → refused zeros r ≡ answered zeros (refusalNumber r) a

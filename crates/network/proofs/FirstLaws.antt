@@ -21,7 +21,7 @@ use Rattle.network.proofs.TreeStrategy.{wins→consistent}
 use Rattle.network.proofs.StrategyTree.{consistent→won}
 
 module _ (net : Network) where
-  is-not-over : (s : State) (m : Move) → Legal net s m → over net s ≡ false
+  pub is-not-over : (s : State) (m : Move) → Legal net s m → over net s ≡ false
   is-not-over s m lg = by-test (over net s) (λ y. not-over net s m lg (over-is net s .0 y)) (λ z. z)
 
   -- ---- the search finds what can be won, and nothing else

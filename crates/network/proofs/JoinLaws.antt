@@ -1,5 +1,5 @@
 -- Laws of lists that are joined piece by piece. Only the checker need believe this file.
-use mathlib.Core.Path.{_≡_, refl, sym, ap, _∙_}
+use mathlib.Core.Path.{_≡_, refl, sym, ap, _∙_, subst}
 use mathlib.Core.Logic.{by-cases}
 use mathlib.Core.List.{List, [], _++_, append-assoc, append-nil}
 use Prim.Native.Nat.{ℕ, zero, suc, _*_, _<_}
@@ -8,7 +8,7 @@ use native.Mathlib.Nat.{not-suc-le-zero}
 use native.Mathlib.Decide.{decLt}
 use lib.ListN.{length, drop, length-append}
 use lib.Seq.{drop-at}
-use Rattle.network.specs.Mask.{joinBelow}
+use Rattle.network.specs.Mask.{sumBelow, joinBelow}
 
 module _ {A : Type 0} where
   pub join-cong : (n : ℕ) (f g : ℕ → List A) → ((i : ℕ) → i < n → f i ≡ g i) → joinBelow n f ≡ joinBelow n g
@@ -22,6 +22,14 @@ module _ {A : Type 0} where
   join-first zero f = sym (append-nil (f zero))
   join-first (suc n) f =
       ap (λ (l : List A). l ++ f (suc n)) (join-first n f) ∙ append-assoc (f zero) (joinBelow n (λ i. f (suc i))) (f (suc n))
+
+  -- pieces of as many parts as g says, each of the length m
+  pub join-lengths :
+      (n m : ℕ) (f : ℕ → List A) (g : ℕ → ℕ) → ((i : ℕ) → i < n → length (f i) ≡ m * g i) → length (joinBelow n f) ≡ m * sumBelow n g
+  unfolding joinBelow sumBelow
+  join-lengths zero m f g h = omega arith
+  join-lengths (suc n) m f g h =
+      rw (length-append (joinBelow n f) (f n), h n (omega arith), join-lengths n m f g (λ i lt. h i (omega arith))) (omega arith)
 
   -- pieces of one length
   pub join-length : (n m : ℕ) (f : ℕ → List A) → ((i : ℕ) → i < n → length (f i) ≡ m) → length (joinBelow n f) ≡ m * n
@@ -57,4 +65,19 @@ module _ {A : Type 0} where
         e .0,
         ap (drop (m * k)) (e .1)
             ∙ drop-at (joinBelow k f) (f k ++ e .0) (m * k) (join-length k m f (λ i l. h i (omega arith))),
+      )
+
+  -- Pieces that can be told apart whatever stands behind them: equal joins have equal pieces, in the sense of P, and the same behind them.
+  pub join-parse :
+      (P : ℕ → Type 0) (n : ℕ) (f g : ℕ → List A) →
+      ((k : ℕ) → k < n → (u v : List A) → f k ++ u ≡ g k ++ v → P k × (u ≡ v)) → (u v : List A) →
+      joinBelow n f ++ u ≡ joinBelow n g ++ v → ((k : ℕ) → k < n → P k) × (u ≡ v)
+  unfolding joinBelow
+  join-parse P zero f g h u v e = (λ k lt. absurd (not-suc-le-zero lt), e)
+  join-parse P (suc n) f g h u v e =
+      let before = join-parse P n f g (λ k lt. h k (omega arith)) (f n ++ u) (g n ++ v)
+      (sym (append-assoc (joinBelow n f) (f n) u) ∙ e ∙ append-assoc (joinBelow n g) (g n) v) in
+      let last = h n (omega arith) u v (before .1) in (
+        λ k lt. by-cases (decLt k n) (before .0 k) (λ ge. let q : n ≡ k = omega arith in subst P q (last .0)),
+        last .1,
       )

@@ -2,17 +2,17 @@
 -- need believe this file.
 use mathlib.Core.Path.{_≡_, refl, sym, ap, _∙_}
 use mathlib.Core.Logic.{_↔_, by-cases}
-use mathlib.Core.Bool.{Bool, true, _&&_, xor}
-use Prim.Native.Nat.{ℕ, zero, suc, _+_, _*_, _/_, _%_, _^_, _<_, min}
+use mathlib.Core.Bool.{Bool, true, not, _&&_, _||_, xor}
+use Prim.Native.Nat.{ℕ, zero, suc, _+_, _-_, _*_, _/_, _%_, _^_, _<_, min, max}
 use native.Mathlib.Omega.{arith}
 use native.Mathlib.Decide.{decLt}
 use native.Mathlib.Nat.{pow-suc, div-div-eq-div-mul}
 use lib.Dec.{eqb}
-use lib.Bits.{bitAnd, bitXor, differ, and-step, xor-step}
+use lib.Bits.{bitAnd, bitOr, bitXor, differ, and-step, or-step, xor-step, and-le-l, or-lt}
 use lib.Count.{ones, onesIn, ones-step}
 use Rattle.network.specs.Mask.{bit, digit, mask, count}
 use Rattle.network.proofs.Booleans.{by-test, and-left, and-right, and-make, both-ways, eqb-yes, eqb-is, differs}
-use Rattle.network.proofs.MaskLaws.{bit-mask, bit-mask-above, bits-ext}
+use Rattle.network.proofs.MaskLaws.{bit-mask, bit-mask-above, bits-ext, mask-is}
 
 -- ---- and, or, xor
 
@@ -55,6 +55,12 @@ bit-and =
     (two (λ x y. min x y < 2) (omega arith) (omega arith) (omega arith) (omega arith))
     (two (λ x y. eqb (min x y) 1 ≡ (eqb x 1 && eqb y 1)) refl refl refl refl)
 
+pub bit-or : (a b i : ℕ) → bit (bitOr a b) i ≡ (bit a i || bit b i)
+bit-or =
+    bitwise-bit bitOr max _||_ or-step
+    (two (λ x y. max x y < 2) (omega arith) (omega arith) (omega arith) (omega arith))
+    (two (λ x y. eqb (max x y) 1 ≡ (eqb x 1 || eqb y 1)) refl refl refl refl)
+
 pub bit-xor : (a b i : ℕ) → bit (bitXor a b) i ≡ xor (bit a i) (bit b i)
 unfolding xor
 bit-xor =
@@ -68,6 +74,37 @@ and-masks n f g =
     bits-ext (bitAnd (mask n f) (mask n g)) (mask n (λ i. f i && g i)) (λ i. bit-and (mask n f) (mask n g) i ∙ by-cases (decLt i n)
     (λ lt. rw (bit-mask n f i lt, bit-mask n g i lt, bit-mask n (λ i. f i && g i) i lt))
     (λ ge. rw (bit-mask-above n f i (omega arith), bit-mask-above n (λ i. f i && g i) i (omega arith))))
+
+-- the members of one of three sets
+pub or-masks :
+    (n a b c : ℕ) → a < 2 ^ n → b < 2 ^ n → c < 2 ^ n → bitOr (bitOr a b) c ≡ mask n (λ i. bit a i || bit b i || bit c i)
+or-masks n a b c ha hb hc =
+    mask-is n (bitOr (bitOr a b) c) _ (or-lt n (bitOr a b) c (or-lt n a b ha hb) hc)
+    (λ i lt. bit-or (bitOr a b) c i ∙ rw (bit-or a b i))
+
+-- ---- the numbers that a set lacks
+
+other-digit : (x y : ℕ) → x < 2 → y < 2 → x + y ≡ 1 → eqb x 1 ≡ not (eqb y 1)
+other-digit =
+    two (λ x y. x + y ≡ 1 → eqb x 1 ≡ not (eqb y 1))
+    (λ e. absurd (omega arith)) (λ e. refl) (λ e. refl) (λ e. absurd (omega arith))
+
+pub bit-not : (n a i : ℕ) → a < 2 ^ n → i < n → bit (2 ^ n - 1 - a) i ≡ not (bit a i)
+unfolding bit
+bit-not zero a i h lt = absurd (omega arith)
+bit-not (suc n) a zero h lt =
+    let p = pow-suc 2 n in
+    other-digit ((2 ^ suc n - 1 - a) % 2) (a % 2) (omega arith) (omega arith) (omega arith)
+bit-not (suc n) a (suc i) h lt =
+    let p = pow-suc 2 n in
+    let e : (2 ^ suc n - 1 - a) / 2 ≡ 2 ^ n - 1 - a / 2 = omega arith in
+    rw e (bit-not n (a / 2) i (omega arith) (omega arith))
+
+-- the members of a set that another lacks
+pub without : (n a b : ℕ) → a < 2 ^ n → b < 2 ^ n → bitAnd a (2 ^ n - 1 - b) ≡ mask n (λ i. bit a i && not (bit b i))
+without n a b ha hb =
+    mask-is n (bitAnd a (2 ^ n - 1 - b)) _ (let l = and-le-l a (2 ^ n - 1 - b) in omega arith)
+    (λ i lt. bit-and a (2 ^ n - 1 - b) i ∙ rw (bit-not n b i hb lt))
 
 -- ---- a subset
 

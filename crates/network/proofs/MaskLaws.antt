@@ -2,14 +2,15 @@
 use mathlib.Core.Path.{_≡_, refl, sym, _∙_}
 use mathlib.Core.Logic.{by-cases}
 use mathlib.Core.Bool.{Bool, true, false}
-use Prim.Native.Nat.{ℕ, zero, suc, _+_, _*_, _/_, _%_, _^_, _≤_, _<_}
+use Prim.Native.Nat.{ℕ, zero, suc, _+_, _-_, _*_, _/_, _%_, _^_, _≤_, _<_}
 use native.Mathlib.Omega.{arith}
 use native.Mathlib.Nat.{not-suc-le-zero, pow-suc}
 use native.Mathlib.Decide.{decLt}
-use lib.Dec.{eqb}
+use lib.Dec.{ltb, eqb}
 use lib.Arith.{bin-ind}
+use lib.Pow.{pow-pos}
 use Rattle.network.specs.Mask.{bit, digit, mask}
-use Rattle.network.proofs.Booleans.{by-test, clash, differs, eqb-is}
+use Rattle.network.proofs.Booleans.{by-test, clash, differs, eqb-is, ltb-yes, ltb-is}
 
 pub bit-zero : (i : ℕ) → bit 0 i ≡ false
 unfolding bit
@@ -117,3 +118,21 @@ mask-narrow n w f le small =
         by-cases (decLt i w)
         (λ lt. bit-mask w f i lt ∙ by-test (f i) (λ y. absurd (ge (small i y))) (λ z. z))
         (λ past. bit-mask-above w f i (omega arith))
+
+-- a number below 2 ^ n is the mask of what its bits are
+pub mask-is : (n m : ℕ) (f : ℕ → Bool) → m < 2 ^ n → ((i : ℕ) → i < n → bit m i ≡ f i) → m ≡ mask n f
+mask-is n m f h b =
+    bits-ext m (mask n f) (λ i. by-cases (decLt i n)
+    (λ lt. b i lt ∙ sym (bit-mask n f i lt))
+    (λ ge. bit-above n m i h (omega arith) ∙ sym (bit-mask-above n f i (omega arith))))
+
+-- ---- the first numbers
+
+pub mask-full : (n : ℕ) → mask n (λ i. true) ≡ 2 ^ n - 1
+unfolding mask
+mask-full zero = refl
+mask-full (suc n) = let r = mask-full n in let p = pow-suc 2 n in let q = pow-pos n in omega arith
+
+pub mask-first : (n w : ℕ) → n ≤ w → mask w (λ i. ltb i n) ≡ mask n (λ i. true)
+mask-first n w le =
+    mask-narrow n w (λ i. ltb i n) le (λ i y. ltb-is i n y) ∙ mask-cong n (λ i. ltb i n) (λ i. true) (λ i lt. ltb-yes i n lt)

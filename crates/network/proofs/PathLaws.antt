@@ -1,12 +1,13 @@
 -- Laws of the path that a condition scenario walks down a sound tree. Only the checker need believe this file.
-use mathlib.Core.Path.{_≡_, refl, sym, _∙_, subst}
+use mathlib.Core.Path.{_≡_, refl, sym, ap, _∙_, subst}
 use mathlib.Core.Bool.{true, false}
 use Prim.Native.Nat.{ℕ, _≤_, _<_}
 use native.Mathlib.Omega.{arith}
 use Rattle.network.specs.Mask.{bit}
 use Rattle.network.specs.Network.{Network, condition, decision, IsNetwork}
-use Rattle.network.specs.Game.{State, Move, hears, Outcome, after}
-use Rattle.network.specs.Tree.{Tree, done, node, Sound, outcomeOf, play}
+use Rattle.network.specs.Game.{State, start, Move, hears, Outcome, after, Over}
+use Rattle.network.specs.Tree.{Tree, done, node, Sound, outcomeOf, play, strategyOf}
+use Rattle.network.specs.FirstMoves.{SameTree}
 use Rattle.network.proofs.Booleans.{by-test, clash, and-left}
 use Rattle.network.proofs.MaskLaws.{bit-mask, mask-cong, in-mask}
 use Rattle.network.proofs.NetworkLaws.{condition-lt, condition-point, decision-point}
@@ -32,6 +33,25 @@ module _ (net : Network) (wf : IsNetwork net) where
       mask-cong (net .letters) _ _ (λ l lt. by-test (hears net m l)
       (λ y. rw (h l (heard-condition net m l y) (heard-point net m l y)))
       (λ n. rw n))
+
+  -- the same trees are played alike, so they describe the same strategy
+  play-alike : (t t′ : Tree) → SameTree net t t′ → (s : State) (cs : ℕ) → play net t s cs ≡ play net t′ s cs
+  unfolding SameTree play
+  play-alike done done same s cs = refl
+  play-alike done (node m′ next′) same s cs = absurd same
+  play-alike (node m next) done same s cs = absurd same
+  play-alike (node m next) (node m′ next′) same s cs =
+      let o = outcomeOf net m cs in
+      play-alike (next o) (next′ o) (same .1 o (outcome-is m cs)) (after net s m o) cs
+      ∙ ap (λ (x : Move). play net (next′ (outcomeOf net x cs)) (after net s x (outcomeOf net x cs)) cs) (same .0)
+
+  pub same-strategy : (t t′ : Tree) → SameTree net t t′ → strategyOf net t ≡ strategyOf net t′
+  unfolding strategyOf
+  same-strategy t t′ same i =
+      record {
+        time = λ cs. play-alike t t′ same (start net) cs i .slots;
+        choice = λ cs. play-alike t t′ same (start net) cs i .decided;
+      }
 
   -- cs and cs′ agree on each condition that cs hears, in what is left of the tree, before the slot of x
   abbrev pub AgreeBefore : Tree → State → ℕ → ℕ → ℕ → Type 0
@@ -106,6 +126,12 @@ module _ (net : Network) (wf : IsNetwork net) where
     unfolding Sound play
     ends done s cs sd = sd .1
     ends (node m next) s cs sd = let o = outcomeOf net m cs in ends (next o) (after net s m o) cs (sd .1 o (outcome-is m cs))
+
+    -- .. and where no point is left
+    pub ends-over : (t : Tree) (s : State) (cs : ℕ) → Sound net End t s → Over net (play net t s cs)
+    unfolding Sound play
+    ends-over done s cs sd = sd .0
+    ends-over (node m next) s cs sd = let o = outcomeOf net m cs in ends-over (next o) (after net s m o) cs (sd .1 o (outcome-is m cs))
 
     -- what was heard on the path are the scenario's values
     pub heard-is : (t : Tree) (s : State) (cs : ℕ) → Sound net End t s

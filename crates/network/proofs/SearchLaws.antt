@@ -18,7 +18,7 @@ use Rattle.network.proofs.NetworkLaws.{decision-lt}
 use Rattle.network.proofs.GameLaws.{Inside, settled-decision, outcome-at-is, outcome-numbered}
 
 -- a number that is not 0 has a bit
-some-bit : (n m : ℕ) → ((i : ℕ) → bit m i ≡ true → i < n) → 0 < m → (i : ℕ) × (i < n) × (bit m i ≡ true)
+pub some-bit : (n m : ℕ) → ((i : ℕ) → bit m i ≡ true → i < n) → 0 < m → (i : ℕ) × (i < n) × (bit m i ≡ true)
 some-bit n m small pos =
     by-test (anyBelow n (bit m))
     (λ y. any-at n (bit m) y)

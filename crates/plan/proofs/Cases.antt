@@ -20,15 +20,15 @@ use Rattle.plan.specs.Plan.{zeroLetter, zeroConstraint, signed, listed, 
 use Rattle.plan.specs.Judge.{headFine, takenBefore, letterFine, letterUnused, letterEntry, lettersFine, boundFine, constraintFine, constraintUnused, constraintEntry, constraintsFine, planFault}
 
 -- disclosing point, kind
-abbrev letter : ℕ → ℕ → Letter
+abbrev pub letter : ℕ → ℕ → Letter
 letter x k = record { point = x; kind = k }
 
 -- X, Y, bound in two's complement, need, true
-abbrev constraint : ℕ → ℕ → ℕ → ℕ → ℕ → Constraint
+abbrev pub constraint : ℕ → ℕ → ℕ → ℕ → ℕ → Constraint
 constraint x y d n t = record { from = x; to = y; bound = d; need = n; truth = t }
 
 -- a head, and the entries that are not zero
-abbrev record-of : ℕ → ℕ → ℕ → ℕ → List Letter → List Constraint → Plan
+abbrev pub record-of : ℕ → ℕ → ℕ → ℕ → List Letter → List Constraint → Plan
 record-of h n l c ls cs =
     record {
       horizon = h;
@@ -40,7 +40,7 @@ record-of h n l c ls cs =
     }
 
 -- as many entries as the head says
-abbrev plan : ℕ → ℕ → List Letter → List Constraint → Plan
+abbrev pub plan : ℕ → ℕ → List Letter → List Constraint → Plan
 plan h n ls cs = record-of h n (length ls) (length cs) ls cs
 
 abbrev move : ℕ → ℕ → ℕ → Move
@@ -51,10 +51,10 @@ move t ps ch = record { slot = t; points = ps; choices = ch }
 abbrev apart : ℕ → List Constraint
 apart d = constraint 0 1 d 1 1 ∷ (constraint 1 0 65534 1 0 ∷ [])
 
-abbrev k4 : Plan
+abbrev pub k4 : Plan
 k4 = plan 2 2 (letter 0 0 ∷ []) (apart 1)
 
-abbrev k5 : Plan
+abbrev pub k5 : Plan
 k5 = plan 1 2 (letter 0 0 ∷ []) (apart 1)
 
 abbrev k7 : Plan

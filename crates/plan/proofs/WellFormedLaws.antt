@@ -24,7 +24,7 @@ use Rattle.plan.proofs.JudgeLaws.{headOf, head-fault, letters-fault, co
 
 -- ---- what a test says
 
-says-le : (a b : ℕ) → (leb a b ≡ true) ↔ (a ≤ b)
+pub says-le : (a b : ℕ) → (leb a b ≡ true) ↔ (a ≤ b)
 says-le a b = (leb-is a b, leb-yes a b)
 
 says-lt : (a b : ℕ) → (ltb a b ≡ true) ↔ (a < b)
@@ -33,12 +33,12 @@ says-lt a b = (ltb-is a b, ltb-yes a b)
 says-eq : (a b : ℕ) → (eqb a b ≡ true) ↔ (a ≡ b)
 says-eq a b = (eqb-is a b, eqb-yes a b)
 
-says-not : (b : Bool) → (not b ≡ true) ↔ (b ≡ false)
+pub says-not : (b : Bool) → (not b ≡ true) ↔ (b ≡ false)
 says-not b = (not-true b, λ e. rw e)
 
 -- `and`, of two tests that say A and B
 infixl 35 _also_
-_also_ : {a b : Bool} {A B : Type 0} → ((a ≡ true) ↔ A) → ((b ≡ true) ↔ B) → ((a && b) ≡ true) ↔ (A × B)
+pub _also_ : {a b : Bool} {A B : Type 0} → ((a ≡ true) ↔ A) → ((b ≡ true) ↔ B) → ((a && b) ≡ true) ↔ (A × B)
 _also_ {a} {b} f g = (λ t. (f .0 (and-left a b t), g .0 (and-right a b t)), λ h. and-make (f .1 (h .0)) (g .1 (h .1)))
 
 says-or : {a b : Bool} {A B : Type 0} → ((a ≡ true) ↔ A) → ((b ≡ true) ↔ B) → ((a || b) ≡ true) ↔ (A ⊎ B)

@@ -3,7 +3,8 @@ use denote.Ref.{now}
 use mathlib.Core.Path.{sym, ap, _∙_}
 use borrow.Author.Needs.{needs}
 use Rattle.plan.specs.Refusal.{judgedNumber}
-use Rattle.frame.proofs.ReadingLaws.{rest-is, read-long, then-on, then-stop}
+use Rattle.plan.proofs.SliceLaws.{rest-is}
+use Rattle.frame.proofs.ReadingLaws.{read-long, then-on, then-stop}
 use Rattle.plan_text.specs.ReadPlan.{readHead, readPlan}
 use Rattle.plan_text.proofs.reading.read_plan.Statement.{statement}
 use Rattle.plan_text.proofs.reading.read_plan.Tie as tie

@@ -1,7 +1,8 @@
 -- The head, and what is read behind it. Only the checker need believe this file.
 use mathlib.Core.Path.{refl, sym, ap, _∙_}
 use denote.Ref.{now}
-use Rattle.frame.proofs.ReadingLaws.{rest-is, then-on, then-stop, read-long}
+use Rattle.plan.proofs.SliceLaws.{rest-is}
+use Rattle.frame.proofs.ReadingLaws.{then-on, then-stop, read-long}
 use Rattle.tree_text.specs.TreeText.{treeReadAnswer, readTreeHead, readNodes}
 use borrow.Author.Needs.{needs}
 use Rattle.tree_text.proofs.reading.read_nodes.Statement.{statement}
