@@ -1,0 +1,35 @@
+-- Definitions: the bytes of a strategy tree, and which bytes are well formed. A reader must believe this file.
+use mathlib.Core.Path.{_≡_}
+use mathlib.Core.List.{List, [], _∷_, _++_}
+use Prim.Native.Nat.{ℕ}
+use Rattle.network.specs.Network.{Network}
+use Rattle.network.specs.Game.{Move}
+use Rattle.network.specs.Tree.{Tree, Shaped, preorder}
+use Rattle.tree.specs.declared.Node.{Node}
+use Rattle.tree.specs.Nodes.{nodeBytes}
+
+-- a node is a move of the game
+abbrev pub moveOf : Node → Move
+moveOf v = record { slot = v .slot; points = v .points; choices = v .choices }
+
+abbrev pub nodeOf : Move → Node
+nodeOf m = record { slot = m .slot; points = m .points; choices = m .choices }
+
+-- the bytes of moves, one after the other
+unfoldable pub movesBytes : List Move → List ℕ
+movesBytes [] = []
+movesBytes (m ∷ ms) = nodeBytes (nodeOf m) ++ movesBytes ms
+
+-- the bytes of a tree: its nodes, parent first, then each child's whole subtree in turn
+abbrev pub treeBytes : Network → Tree → List ℕ
+treeBytes net t = movesBytes (preorder net t)
+
+-- The bytes describe the tree: it is sound in shape, and they are its bytes and end where they end.
+pub record Describes (net : Network) (bs : List ℕ) (t : Tree) : Type 0 where
+  pub shaped : Shaped net t
+  pub all-bytes : bs ≡ treeBytes net t
+
+-- Well-formed bytes: they describe some tree. (There is one only: `one-tree` of the checker's theorems.)
+pub record WellFormedBytes (net : Network) (bs : List ℕ) : Type 0 where
+  pub tree : Tree
+  pub described : Describes net bs tree
