@@ -1,0 +1,48 @@
+-- Laws of legal moves: what the code tests is what the game asks. Only the checker need believe this file.
+use mathlib.Core.Path.{_≡_, _∙_}
+use mathlib.Core.Logic.{_↔_}
+use mathlib.Core.Bool.{true}
+use Prim.Native.Nat.{_<_}
+use native.Mathlib.Omega.{arith}
+use lib.Dec.{eqb}
+use Rattle.network.specs.Game.{State, Move, settles, Legal}
+use Rattle.network.proofs.Booleans.{clash, differs, eqb-no}
+use Rattle.network.proofs.MaskLaws.{bit-zero, bit-mask, in-mask}
+use Rattle.network.proofs.MachineLaws.{subset-is}
+use Rattle.network.proofs.NetworkLaws.{decision-lt}
+use Rattle.network.proofs.GameLaws.{Inside, settled-decision}
+use Rattle.network.proofs.SearchLaws.{some-bit}
+use Rattle.plan.specs.declared.Plan.{Plan}
+use Rattle.plan.specs.Plan.{networkOf}
+use Rattle.plan.specs.Letters.{settledBy}
+use Rattle.plan.specs.WellFormed.{WellFormed}
+use Rattle.plan.proofs.WellFormedLaws.{says-le, says-not, _also_}
+use Rattle.game.specs.Position.{isLegal}
+
+module _ (p : Plan) (wf : WellFormed p) (s : State) (in-s : Inside (networkOf p) s) (m : Move) where
+  pub legal-exactly : (isLegal p s m ≡ true) ↔ Legal (networkOf p) s m
+  unfolding isLegal
+  legal-exactly =
+      let f =
+      says-le (s .open-from) (m .slot) also says-le (m .slot) (p .horizon) also says-not (eqb (m .points) 0)
+      also subset-is (m .points) (s .left) also subset-is (m .choices) (settledBy p (m .points)) in (
+        λ t. let h = f .0 t in
+            let some = differs (m .points) 0 (h .0 .0 .1) in
+            record {
+              later = h .0 .0 .0 .0;
+              within = h .0 .0 .0 .1;
+              some = some-bit (p .points) (m .points) (λ x y. in-s x (h .0 .1 x y)) (omega arith);
+              not-yet = h .0 .1;
+              disclosed = λ l y. in-mask 6 (settles (networkOf p) m) l (h .1 l y) .1;
+            },
+        λ lg. f .1 (
+          (((lg .later, lg .within), eqb-no (m .points) 0 (some-point lg)), lg .not-yet),
+          λ l y. let q = lg .disclosed l y in
+              let lt : l < p .letters = decision-lt (networkOf p) l (settled-decision (networkOf p) m l q) in
+              let few = wf .letters in
+              bit-mask 6 (settles (networkOf p) m) l (omega arith) ∙ q,
+        ),
+      )
+    where
+      some-point : Legal (networkOf p) s m → m .points ≡ 0 → ⊥
+      some-point lg e = let x = lg .some in clash (x .2) (rw e (bit-zero (x .0)))

@@ -1,0 +1,5 @@
+-- Laws: the modules of this folder. Only the checker need believe them.
+pub mod CodeLaws
+pub mod LegalLaws
+pub mod PositionLaws
+pub mod Cases

@@ -1,0 +1,59 @@
+-- Definitions: a position as the code holds it, the state of the game that it stands for, legal moves as the code tests them. A reader must
+-- believe `stateOf` and `Proper`. The rest is tied to the game by `legal-exactly` of proofs/LegalLaws.antt, and by `start-is` and `after-is` of
+-- proofs/PositionLaws.antt.
+use mathlib.Core.Path.{_≡_}
+use mathlib.Core.Bool.{Bool, true, false, not, cond, _&&_, _||_}
+use mathlib.Core.List.{List}
+use Prim.Native.Nat.{ℕ, _+_, _<_}
+use lib.Dec.{leb, ltb, eqb}
+use lib.ListN.{getD, replicate}
+use Rattle.network.specs.Mask.{bit, mask}
+use Rattle.network.specs.Network.{condition, decision}
+use Rattle.network.specs.Game.{State, Move}
+use Rattle.plan.specs.declared.Plan.{Plan}
+use Rattle.plan.specs.Plan.{listed, networkOf}
+use Rattle.plan.specs.Masks.{inside}
+use Rattle.plan.specs.Letters.{settledBy}
+use Rattle.plan.specs.Constraints.{slotsIn}
+use Rattle.tree.specs.declared.Node.{Node}
+use Rattle.game.specs.declared.Position.{Position}
+
+-- the state of the game that a position stands for: of the letters set true, the conditions were heard and the decisions made
+abbrev pub stateOf : Plan → Position → State
+stateOf p at =
+    record {
+      open-from = at .earliest;
+      left = at .left;
+      slots = slotsIn (at .slots);
+      heard = mask (p .letters) (λ l. condition (networkOf p) l && bit (at .values) l);
+      decided = mask (p .letters) (λ l. decision (networkOf p) l && bit (at .values) l);
+    }
+
+-- A proper position: only points of the plan are left, and only letters that points already performed disclose are set true. The first
+-- one is proper, and every legal move leads from a proper one to proper ones.
+pub record Proper (p : Plan) (at : Position) : Type 0 where
+  pub points-left : (x : ℕ) → bit (at .left) x ≡ true → x < p .points
+  pub disclosed : (l : ℕ) → bit (at .values) l ≡ true → bit (at .left) (networkOf p .disclosing l) ≡ false
+
+-- before the first move
+abbrev pub startPosition : Plan → Position
+startPosition p = record { earliest = 0; left = mask 8 (λ x. ltb x (p .points)); values = 0; slots = replicate 8 0 }
+
+-- a legal move: `Legal` of the game, tested
+unfoldable pub isLegal : Plan → State → Move → Bool
+isLegal p s m =
+    leb (s .open-from) (m .slot) && leb (m .slot) (p .horizon) && not (eqb (m .points) 0) && inside (m .points) (s .left)
+    && inside (m .choices) (settledBy p (m .points))
+
+-- after a move and its outcome: `after` of the game
+abbrev pub slotsAfter : List ℕ → ℕ → ℕ → List ℕ
+slotsAfter slots points slot = listed 8 (λ x. cond (bit points x) slot (getD slots x 0))
+
+abbrev pub positionAfter : Position → Node → ℕ → Position
+positionAfter at v o =
+    record {
+      earliest = v .slot + 1;
+      left = mask 8 (λ x. bit (at .left) x && not (bit (v .points) x));
+      values = mask 8 (λ l. bit (at .values) l || bit (v .choices) l || bit o l);
+      slots = slotsAfter (at .slots) (v .points) (v .slot);
+    }

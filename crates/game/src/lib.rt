@@ -1,0 +1,80 @@
+// The game in code: a position, the legal moves, what a move and its outcome lead to.
+use plan::Plan;
+use plan::letters;
+use plan::mask;
+use tree::Node;
+ghost use mathlib.Core.Path.{_≡_};
+ghost use Rattle.network.specs.Mask.{mask};
+ghost use lib.Dec.{ltb};
+ghost use Rattle.tree.specs.Trees.{moveOf};
+ghost use Rattle.game.specs.Position.{stateOf, slotsAfter, isLegal, startPosition, positionAfter};
+
+// Where the game stands on a path: the first slot still open, the points not yet performed, the letters set true, and the slot of each
+// point that is performed.
+pub struct Position {
+    pub earliest: u16,
+    pub left: u8,
+    pub values: u8,
+    pub slots: [u8; 8],
+}
+
+// The mask of the first n points; all eight where n is larger.
+fn first_points(n: u8) -> u8
+    ensures { λ r. ⌜ r ≡ mask 8 (λ x. ltb x n) ⌝ }
+{
+    if 8 <= n {
+        return 255;
+    }
+    (1u8 << n) - 1
+}
+
+// The position before the first move.
+pub fn start(plan: Plan) -> Position
+    ensures { λ r. ⌜ r ≡ startPosition plan ⌝ }
+{
+    Position {
+        earliest: 0,
+        left: first_points(plan.points),
+        values: 0,
+        slots: [0; 8],
+    }
+}
+
+// Whether the move is legal. Tests are joined by `&`, which makes no branches.
+pub fn legal(plan: Plan, at: Position, v: Node) -> bool
+    ensures { λ r. ⌜ r ≡ isLegal plan (stateOf plan at) (moveOf v) ⌝ }
+{
+    (at.earliest <= v.slot as u16)
+        & (v.slot <= plan.horizon)
+        & (v.points != 0)
+        & mask::subset(v.points, at.left)
+        & mask::subset(v.choices, letters::settled(plan, v.points))
+}
+
+// The slots, with this slot given to each of these points.
+fn slots_after(slots: [u8; 8], points: u8, slot: u8) -> [u8; 8]
+    ensures { λ r. ⌜ r ≡ slotsAfter slots points slot ⌝ }
+{
+    let mut out = slots;
+    let mut x: u8 = 0;
+    while x < 8 {
+        if mask::has(points, x) {
+            out[x as usize] = slot;
+        }
+        x += 1;
+    }
+    out
+}
+
+// The position after a move and its outcome.
+pub fn after(at: Position, v: Node, outcome: u8) -> Position
+    ensures { λ r. ⌜ r ≡ positionAfter at v outcome ⌝ }
+{
+    let slots = at.slots;
+    Position {
+        earliest: v.slot as u16 + 1,
+        left: at.left & !v.points,
+        values: at.values | v.choices | outcome,
+        slots: slots_after(slots, v.points, v.slot),
+    }
+}
