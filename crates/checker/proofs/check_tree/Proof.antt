@@ -1,0 +1,115 @@
+-- By the laws of what the call says. Only the checker need believe this file.
+use mathlib.Core.Path.{_≡_, sym, ap, _∙_}
+use mathlib.Core.Bool.{true}
+use borrow.Author.Needs.{needs}
+use lib.ListN.{length}
+use Rattle.network.specs.Game.{State, start}
+use Rattle.network.proofs.Booleans.{denied, granted, not-true, not-false}
+use Rattle.plan.specs.Refusal.{judgedNumber}
+use Rattle.plan.specs.Plan.{networkOf}
+use Rattle.plan.specs.Judge.{planFault}
+use Rattle.plan.specs.WellFormed.{WellFormed}
+use Rattle.plan.proofs.WellFormedLaws.{fine-exactly}
+use Rattle.tree.specs.Nodes.{legalLength}
+use Rattle.game.specs.Position.{stateOf}
+use Rattle.game.proofs.PositionLaws.{start-is, start-proper}
+use Rattle.checker.specs.Checker.{subtreeAt}
+use Rattle.checker.proofs.CodeLaws.{plan-refused, length-refused, shape-refused, bytes-left, broken, accepted}
+use Rattle.checker.proofs.check_tree.Statement.{statement}
+use Rattle.checker.proofs.check_tree.Tie as tie
+
+judge-requires : tie.Need-judge-requires
+judge-requires c κs = search needs
+
+enum-told : tie.Need-enum-told
+enum-told c = search needs
+
+enum-told-2 : tie.Need-enum-told-2
+enum-told-2 c = search needs
+
+returns : tie.Need-returns
+returns c =
+    let g = c .enum-told2 .given in
+    let e = ap judgedNumber (g .1) in
+    e ∙ plan-refused (c .before .before .before .before .args .plan) (c .before .before .before .before .args .nodes .now) (g .0 .0) (sym e ∙ c .before .before .judge .ensures)
+
+-- the judge found no fault
+fine : (c : tie.After-enum-told) → 0 ≡ planFault (c .before .before .before .before .args .plan)
+fine c = sym (ap judgedNumber (c .enum-told .given .1)) ∙ c .before .before .judge .ensures
+
+well-formed : (c : tie.After-enum-told) → WellFormed (c .before .before .before .before .args .plan)
+well-formed c = fine-exactly (c .before .before .before .before .args .plan) .0 (sym (fine c))
+
+legal-length-requires : tie.Need-legal-length-requires
+legal-length-requires c κs = search needs
+
+returns-2 : tie.Need-returns-2
+returns-2 c =
+    length-refused (c .before .before .before .before .before .before .args .plan) (c .before .before .before .before .before .before .args .nodes .now) (fine (c .before .before)) (denied (c .before .legal-length .ensures) (c .if1 .taken))
+
+legal : (c : tie.Else1) → legalLength (length (c .before .before .before .before .before .before .args .nodes .now)) ≡ true
+legal c = granted (c .before .legal-length .ensures) (c .if1 .left)
+
+start-requires : tie.Need-start-requires
+start-requires c κs = search needs
+
+subtree-requires : tie.Need-subtree-requires
+subtree-requires c κs =
+    let wf = well-formed (c .before .before .before) in
+    (wf, rw (c .start .ensures) (start-proper (c .before .before .before .before .before .before .before .args .plan) wf))
+
+-- what was found from the start
+from-start : (c : tie.After-subtree) → subtreeAt (c .before .before .before .before .before .before .before .before .args .plan) (start (networkOf (c .before .before .before .before .before .before .before .before .args .plan))) (c .before .before .before .before .before .before .before .before .args .nodes .now) ≡ c .subtree .result
+from-start c =
+    let a = c .before .before .before .before .before .before .before .before .args in
+    sym (c .subtree .ensures ∙ ap (λ (s : State). subtreeAt (a .plan) s (a .nodes .now))
+    (ap (stateOf (a .plan)) (c .before .start .ensures) ∙ start-is (a .plan) (well-formed (c .before .before .before .before))))
+
+enum-known-found : tie.Need-enum-known-found
+enum-known-found c = search needs
+
+enum-told-3 : tie.Need-enum-told-3
+enum-told-3 c = search needs
+
+returns-3 : tie.Need-returns-3
+returns-3 c =
+    shape-refused (c .before .before .before .before .before .before .before .before .before .before .args .plan) (c .before .before .before .before .before .before .before .before .before .before .args .nodes .now) (fine (c .before .before .before .before .before .before)) (legal (c .before .before .before .before))
+    (from-start (c .before .before) ∙ c .enum-told3 .given .1)
+
+node-count-requires : tie.Need-node-count-requires
+node-count-requires c κs = search needs
+
+returns-4 : tie.Need-returns-4
+returns-4 c =
+    bytes-left (c .before .before .before .before .before .before .before .before .before .before .before .before .before .args .plan) (c .before .before .before .before .before .before .before .before .before .before .before .before .before .args .nodes .now) (fine (c .before .before .before .before .before .before .before .before .before)) (legal (c .before .before .before .before .before .before .before)) _ _
+    (from-start (c .before .before .before .before .before) ∙ c .before .before .before .found .given .1) (λ e. c .if2 .taken (e ∙ sym (c .before .node-count .ensures)))
+
+returns-5 : tie.Need-returns-5
+returns-5 c =
+    broken (c .before .before .before .before .before .before .before .before .before .before .before .before .before .before .args .plan) (c .before .before .before .before .before .before .before .before .before .before .before .before .before .before .args .nodes .now) (fine (c .before .before .before .before .before .before .before .before .before .before)) (legal (c .before .before .before .before .before .before .before .before)) _ _
+    (from-start (c .before .before .before .before .before .before) ∙ c .before .before .before .before .found .given .1) (c .before .if2 .left ∙ c .before .before .node-count .ensures) (not-true _ (c .if3 .taken))
+
+returns-6 : tie.Need-returns-6
+returns-6 c =
+    accepted (c .before .before .before .before .before .before .before .before .before .before .before .before .before .before .args .plan) (c .before .before .before .before .before .before .before .before .before .before .before .before .before .before .args .nodes .now) (fine (c .before .before .before .before .before .before .before .before .before .before)) (legal (c .before .before .before .before .before .before .before .before)) _ _
+    (from-start (c .before .before .before .before .before .before) ∙ c .before .before .before .before .found .given .1) (c .before .if2 .left ∙ c .before .before .node-count .ensures) (not-false _ (c .if3 .left))
+
+pub check-tree-spec : {M : Type 1} → statement M
+check-tree-spec =
+    tie.close
+    (tie.spec
+    judge-requires
+    enum-told
+    enum-told-2
+    returns
+    legal-length-requires
+    returns-2
+    start-requires
+    subtree-requires
+    enum-known-found
+    enum-told-3
+    returns-3
+    node-count-requires
+    returns-4
+    returns-5
+    returns-6)
