@@ -1,5 +1,5 @@
 -- The proof of `subtree`, which calls itself with fewer points left. Only the checker need believe this file.
-use mathlib.Core.Path.{_≡_, sym, ap, _∙_}
+use mathlib.Core.Path.{_≡_, refl, sym, ap, _∙_}
 use Prim.Native.Nat.{ℕ, _+_, _-_, _*_, _≤_, _<_}
 use native.Mathlib.Omega.{arith}
 use borrow.Author.Needs.{needs}
@@ -83,12 +83,12 @@ read t c = here t (c .before .before) .read ∙ rw (c .submasks .ensures, c .bef
 -- the position after outcome k, and what is found there
 is-next : (t : ℕ) (c : subtree-lts.After-after (calls t) (entry t) subtree.Post Inv μ) →
     c .after .result ≡ next (c .before .before .before .before .before .before .before .before .before .before .before .before .before .args .plan) (c .before .before .before .before .before .before .before .before .before .before .before .before .before .args .at) (c .before .before .before .before .before .before .before .before .node-at .result) (c .before .before .before .loop .k)
-is-next t c = c .after .ensures ∙ rw (c .before .numbered .ensures, c .before .before .before .before .before .heard .ensures)
+is-next t c = c .after .ensures ∙ rw (c .before .numbered .ensures, c .before .before .before .before .before .heard .ensures) refl
 
 is-child : (t : ℕ) (c : subtree-lts.After-subtree (calls t) (entry t) subtree.Post Inv μ) →
     below (c .before .before .before .before .before .before .before .before .before .before .before .before .before .before .before .args .plan) (c .before .before .before .before .before .before .before .before .before .before .before .before .before .before .before .args .at) (c .before .before .before .before .before .before .before .before .before .before .node-at .result) (c .before .before .before .before .before .loop .k) (drop (3 * c .before .before .before .before .before .loop .count) (c .before .before .before .before .before .before .before .before .before .before .before .before .before .before .before .args .nodes .now))
     ≡ c .subtree .result
-is-child t c = sym (c .subtree .ensures ∙ rw (is-next t (c .before .before), rest-is))
+is-child t c = sym (c .subtree .ensures ∙ rw (is-next t (c .before .before), rest-is) refl)
 
 child-fits : (t : ℕ) (c : subtree-lts.After-known-told (calls t) (entry t) subtree.Post Inv μ) →
     3 * c .before .below .given .0 .0 ≤ length (drop (3 * c .before .before .before .before .before .before .before .before .loop .count) (c .before .before .before .before .before .before .before .before .before .before .before .before .before .before .before .before .before .before .args .nodes .now))
@@ -157,7 +157,7 @@ need-enum-told t c = search needs
 need-returns-4 : (t : ℕ) → subtree-lts.Need-returns-4 (calls t) (entry t) subtree.Post Inv μ
 need-returns-4 t c =
     sym (read t (c .before .before .before .before .before .before .before .before)
-    ∙ subtrees-stop _ _ _ _ _ (c .before .before .before .before .before .before .before .loop .inv .2) (is-child t (c .before .before) ∙ c .enum-told .given .1) _ (c .before .before .before .before .before .before .loop-test .taken))
+    ∙ subtrees-stop _ _ _ _ _ (c .before .before .before .before .before .before .before .loop .inv .2) (is-child t (c .before .before) ∙ c .enum-told .given .1) _ (omega arith))
 
 need-add-count : (t : ℕ) → subtree-lts.Need-add-count (calls t) (entry t) subtree.Post Inv μ
 need-add-count t c = let d = length-drop (3 * c .before .before .before .before .before .before .before .before .loop .count) (c .before .before .before .before .before .before .before .before .before .before .before .before .before .before .before .before .before .before .args .nodes .now) in omega (arith, child-fits t c, c .before .before .before .before .before .before .before .before .before .before .before .before .before .before .before .before .before .before .good .1 .0 .0)

@@ -1,6 +1,7 @@
 -- By the laws of what the call says. Only the checker need believe this file.
 use mathlib.Core.Path.{_≡_, sym, ap, _∙_}
 use mathlib.Core.Bool.{true}
+use native.Mathlib.Omega.{arith}
 use borrow.Author.Needs.{needs}
 use lib.ListN.{length}
 use Rattle.network.specs.Game.{State, start}
@@ -10,7 +11,7 @@ use Rattle.plan.specs.Plan.{networkOf}
 use Rattle.plan.specs.Judge.{planFault}
 use Rattle.plan.specs.WellFormed.{WellFormed}
 use Rattle.plan.proofs.WellFormedLaws.{fine-exactly}
-use Rattle.tree.specs.Nodes.{legalLength}
+use Rattle.tree.specs.Nodes.{legalLength, nodeCount}
 use Rattle.game.specs.Position.{stateOf}
 use Rattle.game.proofs.PositionLaws.{start-is, start-proper}
 use Rattle.checker.specs.Checker.{subtreeAt}
@@ -82,17 +83,20 @@ node-count-requires c κs = search needs
 returns-4 : tie.Need-returns-4
 returns-4 c =
     bytes-left (c .before .before .before .before .before .before .before .before .before .before .before .before .before .args .plan) (c .before .before .before .before .before .before .before .before .before .before .before .before .before .args .nodes .now) (fine (c .before .before .before .before .before .before .before .before .before)) (legal (c .before .before .before .before .before .before .before)) _ _
-    (from-start (c .before .before .before .before .before) ∙ c .before .before .before .found .given .1) (λ e. c .if2 .taken (e ∙ sym (c .before .node-count .ensures)))
+    (from-start (c .before .before .before .before .before) ∙ c .before .before .before .found .given .1) (λ e. omega (arith, e, c .if2 .taken, c .before .node-count .ensures))
+
+all-nodes : (c : tie.Else2) → c .before .before .before .found .given .0 .0 ≡ nodeCount (c .before .before .before .before .before .before .before .before .before .before .before .before .before .args .nodes .now)
+all-nodes c = omega (arith, c .if2 .left, c .before .node-count .ensures)
 
 returns-5 : tie.Need-returns-5
 returns-5 c =
     broken (c .before .before .before .before .before .before .before .before .before .before .before .before .before .before .args .plan) (c .before .before .before .before .before .before .before .before .before .before .before .before .before .before .args .nodes .now) (fine (c .before .before .before .before .before .before .before .before .before .before)) (legal (c .before .before .before .before .before .before .before .before)) _ _
-    (from-start (c .before .before .before .before .before .before) ∙ c .before .before .before .before .found .given .1) (c .before .if2 .left ∙ c .before .before .node-count .ensures) (not-true _ (c .if3 .taken))
+    (from-start (c .before .before .before .before .before .before) ∙ c .before .before .before .before .found .given .1) (all-nodes (c .before)) (not-true _ (c .if3 .taken))
 
 returns-6 : tie.Need-returns-6
 returns-6 c =
     accepted (c .before .before .before .before .before .before .before .before .before .before .before .before .before .before .args .plan) (c .before .before .before .before .before .before .before .before .before .before .before .before .before .before .args .nodes .now) (fine (c .before .before .before .before .before .before .before .before .before .before)) (legal (c .before .before .before .before .before .before .before .before)) _ _
-    (from-start (c .before .before .before .before .before .before) ∙ c .before .before .before .before .found .given .1) (c .before .if2 .left ∙ c .before .before .node-count .ensures) (not-false _ (c .if3 .left))
+    (from-start (c .before .before .before .before .before .before) ∙ c .before .before .before .before .found .given .1) (all-nodes (c .before)) (not-false _ (c .if3 .left))
 
 pub check-tree-spec : {M : Type 1} → statement M
 check-tree-spec =
