@@ -1,6 +1,7 @@
 -- Theorems on the checker (demand 2, second half). Read the statements; only the checker need believe the proofs.
 use mathlib.Core.Path.{_≡_, sym, ap, _∙_}
 use mathlib.Core.Logic.{_↔_, _⊎_, inl, inr, ⊎-elim}
+use mathlib.Core.Bool.{true}
 use mathlib.Core.List.{List, [], _++_}
 use Prim.Native.Nat.{ℕ, _≤_}
 use native.Mathlib.Omega.{arith}
@@ -24,13 +25,14 @@ use Rattle.plan.specs.Plan.{networkOf}
 use Rattle.plan.specs.WellFormed.{WellFormed}
 use Rattle.plan.specs.Judge.{planFault}
 use Rattle.plan.proofs.WellFormedLaws.{fine-exactly}
-use Rattle.plan.proofs.PlanTheorems.{is-network, at-most-191}
+use Rattle.plan.proofs.PlanTheorems.{is-network}
 use Rattle.plan.proofs.RefusalLaws.{fine-is}
-use Rattle.tree.specs.Nodes.{mostBytes}
+use Rattle.tree.specs.Nodes.{mostBytes, legalLength}
 use Rattle.tree.specs.Trees.{Describes, WellFormedBytes}
+use Rattle.tree.proofs.NodeLaws.{legal-is}
 use Rattle.tree.proofs.TreeLaws.{unique}
 use Rattle.checker.specs.Checker.{checkFault}
-use Rattle.checker.proofs.FaultLaws.{described-length, yes-or-seven, by-answer}
+use Rattle.checker.proofs.FaultLaws.{described-legal, yes-or-seven, by-answer}
 
 module _ (p : Plan) (wf : WellFormed p) (bs : List ℕ) where
   abbrev net : Network
@@ -95,12 +97,12 @@ module _ (p : Plan) (wf : WellFormed p) (bs : List ℕ) where
       let wins = tree-viable-exactly net is-net t (d .shaped) .0 viable in
       (ends-over net is-net (Kept net) t (start net) cs wins, ends net is-net (Kept net) t (start net) cs wins)
 
-  -- no well-formed byte string, so no accepted one, is longer than 573
+  -- well-formed bytes are a multiple of 3 from 3 to 573, so no accepted byte string is longer
+  pub legal-bytes : WellFormedBytes net bs → legalLength (length bs) ≡ true
+  legal-bytes w = described-legal p wf bs (w .tree) (w .described)
+
   pub at-most-573 : WellFormedBytes net bs → length bs ≤ mostBytes
-  at-most-573 w =
-      let long = described-length p wf bs (w .tree) (w .described) in
-      let few = at-most-191 p wf (w .tree) (w .described .shaped) in
-      omega arith
+  at-most-573 w = let legal = legal-is (length bs) (legal-bytes w) in let most = legal .most in let threes = legal .threes in omega arith
 
 -- Of every plan record, and of what the call hands back: yes exactly for a well-formed plan and such bytes; the plan's fault comes first.
 pub checked-yes-exactly :

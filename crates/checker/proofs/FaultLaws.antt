@@ -53,7 +53,7 @@ module _ (p : Plan) (wf : WellFormed p) (bs : List ℕ) where
   some-node done sd = clash (all-left net 0 (wf .some-point)) (sd .0 0 (wf .some-point))
   some-node (node m next) sd = omega arith
 
-  pub described-length : (t : Tree) → Describes net bs t → length bs ≡ 3 * nodes net t
+  described-length : (t : Tree) → Describes net bs t → length bs ≡ 3 * nodes net t
   described-length t d = ap length (d .all-bytes) ∙ tree-length net t
 
   described-found : (t : Tree) → Describes net bs t → subtreeAt p (start net) bs ≡ checked.Sound (nodes net t) (allKept net t (start net))
@@ -61,13 +61,15 @@ module _ (p : Plan) (wf : WellFormed p) (bs : List ℕ) where
       ap (subtreeAt p (start net)) (d .all-bytes ∙ sym (append-nil (treeBytes net t)))
       ∙ complete p wf t _ (start net) [] (start-inside net) (omega arith) (d .shaped)
 
+  pub described-legal : (t : Tree) → Describes net bs t → legalLength (length bs) ≡ true
+  described-legal t d =
+      rw (described-length t d) (legal-make (nodes net t) (some-node t (d .shaped)) (at-most-191 p wf t (d .shaped)))
+
   described-fault : (t : Tree) → Describes net bs t → checkFault p bs ≡ unless (allKept net t (start net)) refusal.Broken
   unfolding treeFault unless first
   described-fault t d =
       let long = described-length t d in
-      let legal : legalLength (length bs) ≡ true
-      = rw long (legal-make (nodes net t) (some-node t (d .shaped)) (at-most-191 p wf t (d .shaped))) in
-      no-plan-fault ∙ rw (legal, described-found t d, eqb-yes (nodes net t) (nodeCount bs) (omega arith))
+      no-plan-fault ∙ rw (described-legal t d, described-found t d, eqb-yes (nodes net t) (nodeCount bs) (omega arith))
 
   -- yes where the strategy is viable, else 7
   pub yes-or-seven :

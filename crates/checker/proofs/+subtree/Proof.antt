@@ -70,39 +70,59 @@ long : (t : ℕ) (c : subtree-lts.Start (calls t) (entry t) subtree.Post Inv μ)
 long t c = search needs
 
 here : (t : ℕ) (c : subtree-lts.Else3 (calls t) (entry t) subtree.Post Inv μ) →
-    AtNode (c .before .before .before .before .before .before .before .args .plan) (c .before .before .before .before .before .before .before .args .at) (c .before .before .before .before .before .before .before .args .nodes .now) (c .before .before .node-at .result)
+    let a = c .before .before .before .before .before .before .before .args in
+    AtNode (a .plan) (a .at) (a .nodes .now) (c .before .before .node-at .result)
 here t c =
-    at-node (c .before .before .before .before .before .before .before .args .plan) (c .before .before .before .before .before .before .before .pre .1 .0) (c .before .before .before .before .before .before .before .args .at) (c .before .before .before .before .before .before .before .pre .1 .1) (c .before .before .before .before .before .before .before .args .nodes .now) (c .before .before .before .before .if1 .left) (long t (c .before .before .before .before .before .before .before)) (omega arith)
-    _ (c .before .before .node-at .ensures) (granted (c .before .legal .ensures) (c .if3 .left))
+    let s = c .before .before .before .before .before .before .before in
+    let a = s .args in
+    at-node (a .plan) (s .pre .1 .0) (a .at) (s .pre .1 .1) (a .nodes .now) (c .before .before .before .before .if1 .left) (long t s) (omega arith) _
+    (c .before .before .node-at .ensures) (granted (c .before .legal .ensures) (c .if3 .left))
 
 read : (t : ℕ) (c : subtree-lts.After-submasks (calls t) (entry t) subtree.Post Inv μ) →
-    subtreeAt (c .before .before .before .before .before .before .before .before .before .args .plan) (stateOf (c .before .before .before .before .before .before .before .before .before .args .plan) (c .before .before .before .before .before .before .before .before .before .args .at)) (c .before .before .before .before .before .before .before .before .before .args .nodes .now)
-    ≡ withSubtrees (below (c .before .before .before .before .before .before .before .before .before .args .plan) (c .before .before .before .before .before .before .before .before .before .args .at) (c .before .before .before .before .node-at .result)) (c .before .before .before .before .before .before .before .before .before .args .nodes .now) (c .submasks .result)
+    let a = c .before .before .before .before .before .before .before .before .before .args in
+    subtreeAt (a .plan) (stateOf (a .plan) (a .at)) (a .nodes .now)
+    ≡ withSubtrees (below (a .plan) (a .at) (c .before .before .before .before .node-at .result)) (a .nodes .now) (c .submasks .result)
 read t c = here t (c .before .before) .read ∙ rw (c .submasks .ensures, c .before .heard .ensures)
 
 -- the position after outcome k, and what is found there
 is-next : (t : ℕ) (c : subtree-lts.After-after (calls t) (entry t) subtree.Post Inv μ) →
-    c .after .result ≡ next (c .before .before .before .before .before .before .before .before .before .before .before .before .before .args .plan) (c .before .before .before .before .before .before .before .before .before .before .before .before .before .args .at) (c .before .before .before .before .before .before .before .before .node-at .result) (c .before .before .before .loop .k)
+    let a = c .before .before .before .before .before .before .before .before .before .before .before .before .before .args in
+    c .after .result ≡ next (a .plan) (a .at) (c .before .before .before .before .before .before .before .before .node-at .result) (c .before .before .before .loop .k)
 is-next t c = c .after .ensures ∙ rw (c .before .numbered .ensures, c .before .before .before .before .before .heard .ensures) refl
 
 is-child : (t : ℕ) (c : subtree-lts.After-subtree (calls t) (entry t) subtree.Post Inv μ) →
-    below (c .before .before .before .before .before .before .before .before .before .before .before .before .before .before .before .args .plan) (c .before .before .before .before .before .before .before .before .before .before .before .before .before .before .before .args .at) (c .before .before .before .before .before .before .before .before .before .before .node-at .result) (c .before .before .before .before .before .loop .k) (drop (3 * c .before .before .before .before .before .loop .count) (c .before .before .before .before .before .before .before .before .before .before .before .before .before .before .before .args .nodes .now))
-    ≡ c .subtree .result
+    let a = c .before .before .before .before .before .before .before .before .before .before .before .before .before .before .before .args in
+    let l = c .before .before .before .before .before .loop in
+    below (a .plan) (a .at) (c .before .before .before .before .before .before .before .before .before .before .node-at .result) (l .k) (drop (3 * l .count) (a .nodes .now)) ≡ c .subtree .result
 is-child t c = sym (c .subtree .ensures ∙ rw (is-next t (c .before .before), rest-is) refl)
 
+-- its nodes lie within the bytes
 child-fits : (t : ℕ) (c : subtree-lts.After-known-told (calls t) (entry t) subtree.Post Inv μ) →
-    3 * c .before .below .given .0 .0 ≤ length (drop (3 * c .before .before .before .before .before .before .before .before .loop .count) (c .before .before .before .before .before .before .before .before .before .before .before .before .before .before .before .before .before .before .args .nodes .now))
-child-fits t c = here t (c .before .before .before .before .before .before .before .before .before .before .before) .fit (c .before .before .before .before .before .before .before .before .loop .k) _ _ _ (is-child t (c .before .before .before) ∙ c .before .below .given .1)
+    let l = c .before .before .before .before .before .before .before .before .loop in
+    3 * (l .count + c .before .below .given .0 .0) ≤ length (c .before .before .before .before .before .before .before .before .before .before .before .before .before .before .before .before .before .before .args .nodes .now)
+child-fits t c =
+    let l = c .before .before .before .before .before .before .before .before .loop in
+    let f = here t (c .before .before .before .before .before .before .before .before .before .before .before) .fit (l .k) _ _ _ (is-child t (c .before .before .before) ∙ c .before .below .given .1) in
+    let d = length-drop (3 * l .count) (c .before .before .before .before .before .before .before .before .before .before .before .before .before .before .before .before .before .before .args .nodes .now) in
+    omega arith
+
+-- ---- the needs
 
 need-all-kept-requires : (t : ℕ) → subtree-lts.Need-all-kept-requires (calls t) (entry t) subtree.Post Inv μ
 need-all-kept-requires t c κs = search needs
 
 need-returns : (t : ℕ) → subtree-lts.Need-returns (calls t) (entry t) subtree.Post Inv μ
 need-returns t c =
-    ap (checked.Sound 0) (c .all-kept .ensures) ∙ path-ends (c .before .before .before .before .before .args .plan) (c .before .before .before .before .before .pre .1 .0) (c .before .before .before .before .before .args .at) (c .before .before .before .before .before .pre .1 .1) (c .before .before .before .before .before .args .nodes .now) (c .before .before .if1 .taken)
+    let s = c .before .before .before .before .before in
+    let a = s .args in
+    ap (checked.Sound 0) (c .all-kept .ensures)
+    ∙ path-ends (a .plan) (s .pre .1 .0) (a .at) (s .pre .1 .1) (a .nodes .now) (c .before .before .if1 .taken)
 
 need-returns-2 : (t : ℕ) → subtree-lts.Need-returns-2 (calls t) (entry t) subtree.Post Inv μ
-need-returns-2 t c = too-short (c .before .before .before .before .args .plan) (c .before .before .before .before .pre .1 .0) (c .before .before .before .before .args .at) (c .before .before .before .before .pre .1 .1) (c .before .before .before .before .args .nodes .now) (c .before .if1 .left) (c .if2 .taken)
+need-returns-2 t c =
+    let s = c .before .before .before .before in
+    let a = s .args in
+    too-short (a .plan) (s .pre .1 .0) (a .at) (s .pre .1 .1) (a .nodes .now) (c .before .if1 .left) (c .if2 .taken)
 
 need-node-at-requires : (t : ℕ) → subtree-lts.Need-node-at-requires (calls t) (entry t) subtree.Post Inv μ
 need-node-at-requires t c κs = search needs
@@ -112,7 +132,9 @@ need-legal-requires t c κs = search needs
 
 need-returns-3 : (t : ℕ) → subtree-lts.Need-returns-3 (calls t) (entry t) subtree.Post Inv μ
 need-returns-3 t c =
-    not-legal (c .before .before .before .before .before .before .before .args .plan) (c .before .before .before .before .before .before .before .pre .1 .0) (c .before .before .before .before .before .before .before .args .at) (c .before .before .before .before .before .before .before .pre .1 .1) (c .before .before .before .before .before .before .before .args .nodes .now) (c .before .before .before .before .if1 .left) _ (c .before .before .node-at .ensures)
+    let s = c .before .before .before .before .before .before .before in
+    let a = s .args in
+    not-legal (a .plan) (s .pre .1 .0) (a .at) (s .pre .1 .1) (a .nodes .now) (c .before .before .before .before .if1 .left) _ (c .before .before .node-at .ensures)
     (denied (c .before .legal .ensures) (c .if3 .taken))
 
 need-heard-requires : (t : ℕ) → subtree-lts.Need-heard-requires (calls t) (entry t) subtree.Post Inv μ
@@ -146,7 +168,9 @@ need-subtree-requires : (t : ℕ) → subtree-lts.Need-subtree-requires (calls t
 need-subtree-requires t c κs =
     let n = here t (c .before .before .before .before .before .before .before) in
     let e = is-next t (c .before) in
-    (rw (e, ← c .before .before .before .before .before .before .before .before .before .before .before .before .before .before .pre .0) (n .fewer (c .before .before .before .before .loop .k)), (c .before .before .before .before .before .before .before .before .before .before .before .before .before .before .pre .1 .0, rw e (n .proper (c .before .before .before .before .loop .k))))
+    let k = c .before .before .before .before .loop .k in
+    let s = c .before .before .before .before .before .before .before .before .before .before .before .before .before .before in
+    (rw (e, ← s .pre .0) (n .fewer k), (s .pre .1 .0, rw e (n .proper k)))
 
 need-enum-known-below : (t : ℕ) → subtree-lts.Need-enum-known-below (calls t) (entry t) subtree.Post Inv μ
 need-enum-known-below t c = search needs
@@ -156,11 +180,12 @@ need-enum-told t c = search needs
 
 need-returns-4 : (t : ℕ) → subtree-lts.Need-returns-4 (calls t) (entry t) subtree.Post Inv μ
 need-returns-4 t c =
+    let i = c .before .before .before .before .before .before .before .loop .inv in
     sym (read t (c .before .before .before .before .before .before .before .before)
-    ∙ subtrees-stop _ _ _ _ _ (c .before .before .before .before .before .before .before .loop .inv .2) (is-child t (c .before .before) ∙ c .enum-told .given .1) _ (omega arith))
+    ∙ subtrees-stop _ _ _ _ _ (i .2) (is-child t (c .before .before) ∙ c .enum-told .given .1) _ (omega arith))
 
 need-add-count : (t : ℕ) → subtree-lts.Need-add-count (calls t) (entry t) subtree.Post Inv μ
-need-add-count t c = let d = length-drop (3 * c .before .before .before .before .before .before .before .before .loop .count) (c .before .before .before .before .before .before .before .before .before .before .before .before .before .before .before .before .before .before .args .nodes .now) in omega (arith, child-fits t c, c .before .before .before .before .before .before .before .before .before .before .before .before .before .before .before .before .before .before .good .1 .0 .0)
+need-add-count t c = omega (arith, child-fits t c, c .before .before .before .before .before .before .before .before .before .before .before .before .before .before .before .before .before .before .good .1 .0 .0)
 
 need-add-k : (t : ℕ) → subtree-lts.Need-add-k (calls t) (entry t) subtree.Post Inv μ
 need-add-k t c = omega arith
@@ -171,14 +196,15 @@ need-loop-less t c = omega arith
 need-loop-again : (t : ℕ) → subtree-lts.Need-loop-again (calls t) (entry t) subtree.Post Inv μ
 need-loop-again t c = (
   omega arith,
-  let d = length-drop (3 * c .before .before .before .before .before .before .before .before .loop .count) (c .before .before .before .before .before .before .before .before .before .before .before .before .before .before .before .before .before .before .args .nodes .now) in omega (arith, child-fits t c),
+  child-fits t c,
   subtrees-on _ _ _ _ _ (c .before .before .before .before .before .before .before .before .loop .inv .2) _ _ (is-child t (c .before .before .before) ∙ c .before .below .given .1),
 )
 
 need-returns-5 : (t : ℕ) → subtree-lts.Need-returns-5 (calls t) (entry t) subtree.Post Inv μ
 need-returns-5 t c =
-    let e : c .before .before .submasks .result ≡ c .before .loop .k = omega arith in
-    sym (read t (c .before .before) ∙ rw e (c .before .loop .inv .2))
+    let l = c .before .loop in
+    let e : c .before .before .submasks .result ≡ l .k = omega arith in
+    sym (read t (c .before .before) ∙ rw e (l .inv .2))
 
 pub +subtree-spec : {M : Type 1} → statement M
 +subtree-spec =

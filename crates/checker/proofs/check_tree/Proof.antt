@@ -32,7 +32,8 @@ returns : tie.Need-returns
 returns c =
     let g = c .enum-told2 .given in
     let e = ap judgedNumber (g .1) in
-    e ∙ plan-refused (c .before .before .before .before .args .plan) (c .before .before .before .before .args .nodes .now) (g .0 .0) (sym e ∙ c .before .before .judge .ensures)
+    let a = c .before .before .before .before .args in
+    e ∙ plan-refused (a .plan) (a .nodes .now) (g .0 .0) (sym e ∙ c .before .before .judge .ensures)
 
 -- the judge found no fault
 fine : (c : tie.After-enum-told) → 0 ≡ planFault (c .before .before .before .before .args .plan)
@@ -46,7 +47,8 @@ legal-length-requires c κs = search needs
 
 returns-2 : tie.Need-returns-2
 returns-2 c =
-    length-refused (c .before .before .before .before .before .before .args .plan) (c .before .before .before .before .before .before .args .nodes .now) (fine (c .before .before)) (denied (c .before .legal-length .ensures) (c .if1 .taken))
+    let a = c .before .before .before .before .before .before .args in
+    length-refused (a .plan) (a .nodes .now) (fine (c .before .before)) (denied (c .before .legal-length .ensures) (c .if1 .taken))
 
 legal : (c : tie.Else1) → legalLength (length (c .before .before .before .before .before .before .args .nodes .now)) ≡ true
 legal c = granted (c .before .legal-length .ensures) (c .if1 .left)
@@ -60,7 +62,9 @@ subtree-requires c κs =
     (wf, rw (c .start .ensures) (start-proper (c .before .before .before .before .before .before .before .args .plan) wf))
 
 -- what was found from the start
-from-start : (c : tie.After-subtree) → subtreeAt (c .before .before .before .before .before .before .before .before .args .plan) (start (networkOf (c .before .before .before .before .before .before .before .before .args .plan))) (c .before .before .before .before .before .before .before .before .args .nodes .now) ≡ c .subtree .result
+from-start : (c : tie.After-subtree) →
+    let a = c .before .before .before .before .before .before .before .before .args in
+    subtreeAt (a .plan) (start (networkOf (a .plan))) (a .nodes .now) ≡ c .subtree .result
 from-start c =
     let a = c .before .before .before .before .before .before .before .before .args in
     sym (c .subtree .ensures ∙ ap (λ (s : State). subtreeAt (a .plan) s (a .nodes .now))
@@ -74,7 +78,8 @@ enum-told-3 c = search needs
 
 returns-3 : tie.Need-returns-3
 returns-3 c =
-    shape-refused (c .before .before .before .before .before .before .before .before .before .before .args .plan) (c .before .before .before .before .before .before .before .before .before .before .args .nodes .now) (fine (c .before .before .before .before .before .before)) (legal (c .before .before .before .before))
+    let a = c .before .before .before .before .before .before .before .before .before .before .args in
+    shape-refused (a .plan) (a .nodes .now) (fine (c .before .before .before .before .before .before)) (legal (c .before .before .before .before))
     (from-start (c .before .before) ∙ c .enum-told3 .given .1)
 
 node-count-requires : tie.Need-node-count-requires
@@ -82,20 +87,24 @@ node-count-requires c κs = search needs
 
 returns-4 : tie.Need-returns-4
 returns-4 c =
-    bytes-left (c .before .before .before .before .before .before .before .before .before .before .before .before .before .args .plan) (c .before .before .before .before .before .before .before .before .before .before .before .before .before .args .nodes .now) (fine (c .before .before .before .before .before .before .before .before .before)) (legal (c .before .before .before .before .before .before .before)) _ _
+    let a = c .before .before .before .before .before .before .before .before .before .before .before .before .before .args in
+    bytes-left (a .plan) (a .nodes .now) (fine (c .before .before .before .before .before .before .before .before .before)) (legal (c .before .before .before .before .before .before .before)) _ _
     (from-start (c .before .before .before .before .before) ∙ c .before .before .before .found .given .1) (λ e. omega (arith, e, c .if2 .taken, c .before .node-count .ensures))
 
+-- all bytes are the tree's
 all-nodes : (c : tie.Else2) → c .before .before .before .found .given .0 .0 ≡ nodeCount (c .before .before .before .before .before .before .before .before .before .before .before .before .before .args .nodes .now)
 all-nodes c = omega (arith, c .if2 .left, c .before .node-count .ensures)
 
 returns-5 : tie.Need-returns-5
 returns-5 c =
-    broken (c .before .before .before .before .before .before .before .before .before .before .before .before .before .before .args .plan) (c .before .before .before .before .before .before .before .before .before .before .before .before .before .before .args .nodes .now) (fine (c .before .before .before .before .before .before .before .before .before .before)) (legal (c .before .before .before .before .before .before .before .before)) _ _
+    let a = c .before .before .before .before .before .before .before .before .before .before .before .before .before .before .args in
+    broken (a .plan) (a .nodes .now) (fine (c .before .before .before .before .before .before .before .before .before .before)) (legal (c .before .before .before .before .before .before .before .before)) _ _
     (from-start (c .before .before .before .before .before .before) ∙ c .before .before .before .before .found .given .1) (all-nodes (c .before)) (not-true _ (c .if3 .taken))
 
 returns-6 : tie.Need-returns-6
 returns-6 c =
-    accepted (c .before .before .before .before .before .before .before .before .before .before .before .before .before .before .args .plan) (c .before .before .before .before .before .before .before .before .before .before .before .before .before .before .args .nodes .now) (fine (c .before .before .before .before .before .before .before .before .before .before)) (legal (c .before .before .before .before .before .before .before .before)) _ _
+    let a = c .before .before .before .before .before .before .before .before .before .before .before .before .before .before .args in
+    accepted (a .plan) (a .nodes .now) (fine (c .before .before .before .before .before .before .before .before .before .before)) (legal (c .before .before .before .before .before .before .before .before)) _ _
     (from-start (c .before .before .before .before .before .before) ∙ c .before .before .before .before .found .given .1) (all-nodes (c .before)) (not-false _ (c .if3 .left))
 
 pub check-tree-spec : {M : Type 1} → statement M
