@@ -1,5 +1,5 @@
--- Laws of the code: the loop of `subtree` over outcomes, what it finds at a position, what the call says. Only the checker need believe this
--- file.
+-- Laws of the code: the loop of `subtree` over outcomes, what it finds at a position, what the call says. Only the checker need believe
+-- this file.
 use mathlib.Core.Path.{_≡_, refl, sym, ap, _∙_, subst}
 use mathlib.Core.Logic.{by-cases}
 use mathlib.Core.Bool.{Bool, true, false, _&&_, and-false}
@@ -81,7 +81,9 @@ pub record AtNode (p : Plan) (at : Position) (bs : List ℕ) (v : Node) : Type 0
 
 module _ (p : Plan) (wf : WellFormed p) (at : Position) (ok : Proper p at) (bs : List ℕ) where
   -- no point is left
-  pub path-ends : at .left ≡ 0 → checked.Sound 0 (keeps (networkOf p) (slotsIn (at .slots)) (bit (at .values))) ≡ subtreeAt p (stateOf p at) bs
+  pub path-ends :
+      at .left ≡ 0 →
+      checked.Sound 0 (keeps (networkOf p) (slotsIn (at .slots)) (bit (at .values))) ≡ subtreeAt p (stateOf p at) bs
   path-ends e = sym (at-end p (stateOf p at) bs (over-is-zero p wf at ok .0 e) ∙ ap (checked.Sound 0) (sym (kept-is p wf at)))
 
   module _ (some : ¬ (at .left ≡ 0)) where
@@ -148,26 +150,29 @@ module _ (p : Plan) (bs : List ℕ) where
   unfolding checkFault first
   plan-refused r e = rw (← e, some-number r)
 
-  module _ (fine : 0 ≡ planFault p) where
-    pub length-refused : legalLength (length bs) ≡ false → refusalNumber refusal.Shape ≡ checkFault p bs
+  pub length-refused : 0 ≡ planFault p → legalLength (length bs) ≡ false → refusalNumber refusal.Shape ≡ checkFault p bs
+  unfolding checkFault treeFault first unless
+  length-refused fine z = rw (← fine, z)
+
+  -- the plan and the length are fine, and this is what was found
+  pub record Found (r : Checked) : Type 0 where
+    pub fine : 0 ≡ planFault p
+    pub legal : legalLength (length bs) ≡ true
+    pub is : subtreeAt p (start (networkOf p)) bs ≡ r
+
+  pub shape-refused : Found checked.Unsound → refusalNumber refusal.Shape ≡ checkFault p bs
+  unfolding checkFault treeFault first unless
+  shape-refused f = rw (← f .fine, f .legal, f .is)
+
+  module _ (n : ℕ) (b : Bool) (f : Found (checked.Sound n b)) where
+    pub bytes-left : ¬ (n ≡ nodeCount bs) → refusalNumber refusal.Shape ≡ checkFault p bs
     unfolding checkFault treeFault first unless
-    length-refused z = rw (← fine, z)
+    bytes-left ne = rw (← f .fine, f .legal, f .is, eqb-no n (nodeCount bs) ne)
 
-    module _ (legal : legalLength (length bs) ≡ true) where
-      pub shape-refused : subtreeAt p (start (networkOf p)) bs ≡ checked.Unsound → refusalNumber refusal.Shape ≡ checkFault p bs
-      unfolding checkFault treeFault first unless
-      shape-refused e = rw (← fine, legal, e)
+    pub broken : n ≡ nodeCount bs → b ≡ false → refusalNumber refusal.Broken ≡ checkFault p bs
+    unfolding checkFault treeFault first unless
+    broken all z = rw (← f .fine, f .legal, f .is, eqb-yes n (nodeCount bs) all, z)
 
-      module _ (n : ℕ) (b : Bool) (found : subtreeAt p (start (networkOf p)) bs ≡ checked.Sound n b) where
-        pub bytes-left : ¬ (n ≡ nodeCount bs) → refusalNumber refusal.Shape ≡ checkFault p bs
-        unfolding checkFault treeFault first unless
-        bytes-left ne = rw (← fine, legal, found, eqb-no n (nodeCount bs) ne)
-
-        module _ (all : n ≡ nodeCount bs) where
-          pub broken : b ≡ false → refusalNumber refusal.Broken ≡ checkFault p bs
-          unfolding checkFault treeFault first unless
-          broken z = rw (← fine, legal, found, eqb-yes n (nodeCount bs) all, z)
-
-          pub accepted : b ≡ true → 0 ≡ checkFault p bs
-          unfolding checkFault treeFault first unless
-          accepted y = rw (← fine, legal, found, eqb-yes n (nodeCount bs) all, y)
+    pub accepted : n ≡ nodeCount bs → b ≡ true → 0 ≡ checkFault p bs
+    unfolding checkFault treeFault first unless
+    accepted all y = rw (← f .fine, f .legal, f .is, eqb-yes n (nodeCount bs) all, y)

@@ -1,5 +1,5 @@
 -- Definitions: a position as the code holds it, the state of the game that it stands for, legal moves as the code tests them. A reader must
--- believe `stateOf` and `Proper`. The rest is tied to the game by `legal-exactly` of proofs/LegalLaws.antt, and by `start-is` and `after-is` of
+-- believe `stateOf` and `Proper`. The rest is tied to the game by `legal-exactly` of proofs/LegalLaws.antt, `start-is` and `after-is` of
 -- proofs/PositionLaws.antt.
 use mathlib.Core.Path.{_≡_}
 use mathlib.Core.Bool.{Bool, true, false, not, cond, _&&_, _||_}

@@ -75,7 +75,8 @@ here : (t : ℕ) (c : subtree-lts.Else3 (calls t) (entry t) subtree.Post Inv μ)
 here t c =
     let s = c .before .before .before .before .before .before .before in
     let a = s .args in
-    at-node (a .plan) (s .pre .1 .0) (a .at) (s .pre .1 .1) (a .nodes .now) (c .before .before .before .before .if1 .left) (long t s) (omega arith) _
+    at-node (a .plan) (s .pre .1 .0) (a .at) (s .pre .1 .1) (a .nodes .now)
+    (c .before .before .before .before .if1 .left) (long t s) (omega arith) _
     (c .before .before .node-at .ensures) (granted (c .before .legal .ensures) (c .if3 .left))
 
 read : (t : ℕ) (c : subtree-lts.After-submasks (calls t) (entry t) subtree.Post Inv μ) →
@@ -87,23 +88,28 @@ read t c = here t (c .before .before) .read ∙ rw (c .submasks .ensures, c .bef
 -- the position after outcome k, and what is found there
 is-next : (t : ℕ) (c : subtree-lts.After-after (calls t) (entry t) subtree.Post Inv μ) →
     let a = c .before .before .before .before .before .before .before .before .before .before .before .before .before .args in
-    c .after .result ≡ next (a .plan) (a .at) (c .before .before .before .before .before .before .before .before .node-at .result) (c .before .before .before .loop .k)
+    let v = c .before .before .before .before .before .before .before .before .node-at .result in
+    c .after .result ≡ next (a .plan) (a .at) v (c .before .before .before .loop .k)
 is-next t c = c .after .ensures ∙ rw (c .before .numbered .ensures, c .before .before .before .before .before .heard .ensures) refl
 
 is-child : (t : ℕ) (c : subtree-lts.After-subtree (calls t) (entry t) subtree.Post Inv μ) →
     let a = c .before .before .before .before .before .before .before .before .before .before .before .before .before .before .before .args in
     let l = c .before .before .before .before .before .loop in
-    below (a .plan) (a .at) (c .before .before .before .before .before .before .before .before .before .before .node-at .result) (l .k) (drop (3 * l .count) (a .nodes .now)) ≡ c .subtree .result
+    let v = c .before .before .before .before .before .before .before .before .before .before .node-at .result in
+    below (a .plan) (a .at) v (l .k) (drop (3 * l .count) (a .nodes .now)) ≡ c .subtree .result
 is-child t c = sym (c .subtree .ensures ∙ rw (is-next t (c .before .before), rest-is) refl)
 
 -- its nodes lie within the bytes
 child-fits : (t : ℕ) (c : subtree-lts.After-known-told (calls t) (entry t) subtree.Post Inv μ) →
+    let a = c .before .before .before .before .before .before .before .before .before .before .before .before .before .before .before .before .before .before .args in
     let l = c .before .before .before .before .before .before .before .before .loop in
-    3 * (l .count + c .before .below .given .0 .0) ≤ length (c .before .before .before .before .before .before .before .before .before .before .before .before .before .before .before .before .before .before .args .nodes .now)
+    3 * (l .count + c .before .below .given .0 .0) ≤ length (a .nodes .now)
 child-fits t c =
     let l = c .before .before .before .before .before .before .before .before .loop in
-    let f = here t (c .before .before .before .before .before .before .before .before .before .before .before) .fit (l .k) _ _ _ (is-child t (c .before .before .before) ∙ c .before .below .given .1) in
-    let d = length-drop (3 * l .count) (c .before .before .before .before .before .before .before .before .before .before .before .before .before .before .before .before .before .before .args .nodes .now) in
+    let a = c .before .before .before .before .before .before .before .before .before .before .before .before .before .before .before .before .before .before .args in
+    let e = is-child t (c .before .before .before) ∙ c .before .below .given .1 in
+    let f = here t (c .before .before .before .before .before .before .before .before .before .before .before) .fit (l .k) _ _ _ e in
+    let d = length-drop (3 * l .count) (a .nodes .now) in
     omega arith
 
 -- ---- the needs
@@ -134,8 +140,8 @@ need-returns-3 : (t : ℕ) → subtree-lts.Need-returns-3 (calls t) (entry t) su
 need-returns-3 t c =
     let s = c .before .before .before .before .before .before .before in
     let a = s .args in
-    not-legal (a .plan) (s .pre .1 .0) (a .at) (s .pre .1 .1) (a .nodes .now) (c .before .before .before .before .if1 .left) _ (c .before .before .node-at .ensures)
-    (denied (c .before .legal .ensures) (c .if3 .taken))
+    not-legal (a .plan) (s .pre .1 .0) (a .at) (s .pre .1 .1) (a .nodes .now) (c .before .before .before .before .if1 .left) _
+    (c .before .before .node-at .ensures) (denied (c .before .legal .ensures) (c .if3 .taken))
 
 need-heard-requires : (t : ℕ) → subtree-lts.Need-heard-requires (calls t) (entry t) subtree.Post Inv μ
 need-heard-requires t c κs = search needs
@@ -185,7 +191,9 @@ need-returns-4 t c =
     ∙ subtrees-stop _ _ _ _ _ (i .2) (is-child t (c .before .before) ∙ c .enum-told .given .1) _ (omega arith))
 
 need-add-count : (t : ℕ) → subtree-lts.Need-add-count (calls t) (entry t) subtree.Post Inv μ
-need-add-count t c = omega (arith, child-fits t c, c .before .before .before .before .before .before .before .before .before .before .before .before .before .before .before .before .before .before .good .1 .0 .0)
+need-add-count t c =
+    let g = c .before .before .before .before .before .before .before .before .before .before .before .before .before .before .before .before .before .before .good in
+    omega (arith, child-fits t c, g .1 .0 .0)
 
 need-add-k : (t : ℕ) → subtree-lts.Need-add-k (calls t) (entry t) subtree.Post Inv μ
 need-add-k t c = omega arith
@@ -197,7 +205,8 @@ need-loop-again : (t : ℕ) → subtree-lts.Need-loop-again (calls t) (entry t) 
 need-loop-again t c = (
   omega arith,
   child-fits t c,
-  subtrees-on _ _ _ _ _ (c .before .before .before .before .before .before .before .before .loop .inv .2) _ _ (is-child t (c .before .before .before) ∙ c .before .below .given .1),
+  subtrees-on _ _ _ _ _ (c .before .before .before .before .before .before .before .before .loop .inv .2) _ _
+      (is-child t (c .before .before .before) ∙ c .before .below .given .1),
 )
 
 need-returns-5 : (t : ℕ) → subtree-lts.Need-returns-5 (calls t) (entry t) subtree.Post Inv μ

@@ -1,21 +1,19 @@
 -- By the laws of what the call says. Only the checker need believe this file.
-use mathlib.Core.Path.{_≡_, sym, ap, _∙_}
-use mathlib.Core.Bool.{true}
+use mathlib.Core.Path.{_≡_, sym, ap, _∙_, subst}
 use native.Mathlib.Omega.{arith}
 use borrow.Author.Needs.{needs}
-use lib.ListN.{length}
-use Rattle.network.specs.Game.{State, start}
+use Rattle.network.specs.Game.{State}
 use Rattle.network.proofs.Booleans.{denied, granted, not-true, not-false}
 use Rattle.plan.specs.Refusal.{judgedNumber}
-use Rattle.plan.specs.Plan.{networkOf}
 use Rattle.plan.specs.Judge.{planFault}
 use Rattle.plan.specs.WellFormed.{WellFormed}
 use Rattle.plan.proofs.WellFormedLaws.{fine-exactly}
-use Rattle.tree.specs.Nodes.{legalLength, nodeCount}
+use Rattle.tree.specs.Nodes.{nodeCount}
 use Rattle.game.specs.Position.{stateOf}
 use Rattle.game.proofs.PositionLaws.{start-is, start-proper}
+use Rattle.checker.specs.declared.Checked.the-variants as checked
 use Rattle.checker.specs.Checker.{subtreeAt}
-use Rattle.checker.proofs.CodeLaws.{plan-refused, length-refused, shape-refused, bytes-left, broken, accepted}
+use Rattle.checker.proofs.CodeLaws.{plan-refused, length-refused, Found, shape-refused, bytes-left, broken, accepted}
 use Rattle.checker.proofs.check_tree.Statement.{statement}
 use Rattle.checker.proofs.check_tree.Tie as tie
 
@@ -50,9 +48,6 @@ returns-2 c =
     let a = c .before .before .before .before .before .before .args in
     length-refused (a .plan) (a .nodes .now) (fine (c .before .before)) (denied (c .before .legal-length .ensures) (c .if1 .taken))
 
-legal : (c : tie.Else1) → legalLength (length (c .before .before .before .before .before .before .args .nodes .now)) ≡ true
-legal c = granted (c .before .legal-length .ensures) (c .if1 .left)
-
 start-requires : tie.Need-start-requires
 start-requires c κs = search needs
 
@@ -61,51 +56,54 @@ subtree-requires c κs =
     let wf = well-formed (c .before .before .before) in
     (wf, rw (c .start .ensures) (start-proper (c .before .before .before .before .before .before .before .args .plan) wf))
 
--- what was found from the start
-from-start : (c : tie.After-subtree) →
-    let a = c .before .before .before .before .before .before .before .before .args in
-    subtreeAt (a .plan) (start (networkOf (a .plan))) (a .nodes .now) ≡ c .subtree .result
-from-start c =
-    let a = c .before .before .before .before .before .before .before .before .args in
-    sym (c .subtree .ensures ∙ ap (λ (s : State). subtreeAt (a .plan) s (a .nodes .now))
-    (ap (stateOf (a .plan)) (c .before .start .ensures) ∙ start-is (a .plan) (well-formed (c .before .before .before .before))))
-
 enum-known-found : tie.Need-enum-known-found
 enum-known-found c = search needs
 
 enum-told-3 : tie.Need-enum-told-3
 enum-told-3 c = search needs
 
+-- what was found from the start
+found : (c : tie.After-subtree) → Found (c .before .before .before .before .before .before .before .before .args .plan) (c .before .before .before .before .before .before .before .before .args .nodes .now) (c .subtree .result)
+found c =
+    let a = c .before .before .before .before .before .before .before .before .args in
+    let from = ap (stateOf (a .plan)) (c .before .start .ensures) ∙ start-is (a .plan) (well-formed (c .before .before .before .before)) in
+    record {
+      fine = fine (c .before .before .before .before);
+      legal = granted (c .before .before .before .legal-length .ensures) (c .before .before .if1 .left);
+      is = sym (c .subtree .ensures ∙ ap (λ (s : State). subtreeAt (a .plan) s (a .nodes .now)) from);
+    }
+
 returns-3 : tie.Need-returns-3
 returns-3 c =
     let a = c .before .before .before .before .before .before .before .before .before .before .args in
-    shape-refused (a .plan) (a .nodes .now) (fine (c .before .before .before .before .before .before)) (legal (c .before .before .before .before))
-    (from-start (c .before .before) ∙ c .enum-told3 .given .1)
+    shape-refused (a .plan) (a .nodes .now) (subst (Found (a .plan) (a .nodes .now)) (c .enum-told3 .given .1) (found (c .before .before)))
 
 node-count-requires : tie.Need-node-count-requires
 node-count-requires c κs = search needs
 
+-- .. a sound tree
+found-tree : (c : tie.After-known-told) →
+    let a = c .before .before .before .before .before .before .before .before .before .before .before .args in
+    let g = c .before .found .given in
+    Found (a .plan) (a .nodes .now) (checked.Sound (g .0 .0) (g .0 .1 .0))
+found-tree c = let a = c .before .before .before .before .before .before .before .before .before .before .before .args in subst (Found (a .plan) (a .nodes .now)) (c .before .found .given .1) (found (c .before .before .before))
+
 returns-4 : tie.Need-returns-4
 returns-4 c =
-    let a = c .before .before .before .before .before .before .before .before .before .before .before .before .before .args in
-    bytes-left (a .plan) (a .nodes .now) (fine (c .before .before .before .before .before .before .before .before .before)) (legal (c .before .before .before .before .before .before .before)) _ _
-    (from-start (c .before .before .before .before .before) ∙ c .before .before .before .found .given .1) (λ e. omega (arith, e, c .if2 .taken, c .before .node-count .ensures))
+    let n = c .before .node-count .ensures in
+    bytes-left _ _ _ _ (found-tree (c .before .before)) (λ e. omega (arith, e, n, c .if2 .taken))
 
 -- all bytes are the tree's
-all-nodes : (c : tie.Else2) → c .before .before .before .found .given .0 .0 ≡ nodeCount (c .before .before .before .before .before .before .before .before .before .before .before .before .before .args .nodes .now)
+all-nodes : (c : tie.Else2) →
+    let a = c .before .before .before .before .before .before .before .before .before .before .before .before .before .args in
+    c .before .before .before .found .given .0 .0 ≡ nodeCount (a .nodes .now)
 all-nodes c = omega (arith, c .if2 .left, c .before .node-count .ensures)
 
 returns-5 : tie.Need-returns-5
-returns-5 c =
-    let a = c .before .before .before .before .before .before .before .before .before .before .before .before .before .before .args in
-    broken (a .plan) (a .nodes .now) (fine (c .before .before .before .before .before .before .before .before .before .before)) (legal (c .before .before .before .before .before .before .before .before)) _ _
-    (from-start (c .before .before .before .before .before .before) ∙ c .before .before .before .before .found .given .1) (all-nodes (c .before)) (not-true _ (c .if3 .taken))
+returns-5 c = broken _ _ _ _ (found-tree (c .before .before .before)) (all-nodes (c .before)) (not-true _ (c .if3 .taken))
 
 returns-6 : tie.Need-returns-6
-returns-6 c =
-    let a = c .before .before .before .before .before .before .before .before .before .before .before .before .before .before .args in
-    accepted (a .plan) (a .nodes .now) (fine (c .before .before .before .before .before .before .before .before .before .before)) (legal (c .before .before .before .before .before .before .before .before)) _ _
-    (from-start (c .before .before .before .before .before .before) ∙ c .before .before .before .before .found .given .1) (all-nodes (c .before)) (not-false _ (c .if3 .left))
+returns-6 c = accepted _ _ _ _ (found-tree (c .before .before .before)) (all-nodes (c .before)) (not-false _ (c .if3 .left))
 
 pub check-tree-spec : {M : Type 1} → statement M
 check-tree-spec =
