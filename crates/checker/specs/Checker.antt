@@ -2,9 +2,9 @@
 -- exactly for the trees that are to get them.
 use mathlib.Core.Bool.{true, cond, _&&_}
 use mathlib.Core.List.{List}
-use Prim.Native.Nat.{ℕ, zero, suc, _+_, _*_}
-use lib.Dec.{leb, eqb}
-use lib.ListN.{length, drop}
+use Prim.Native.Nat.{ℕ, zero, suc, _+_}
+use lib.Dec.{eqb}
+use lib.ListN.{length}
 use Rattle.network.specs.Game.{State, start, outcomes, outcomeAt, after, kept}
 use Rattle.network.specs.Tree.{pointsLeft}
 use Rattle.network.specs.Search.{over}
@@ -14,7 +14,7 @@ use Rattle.plan.specs.Refusal.{refusalNumber}
 use Rattle.plan.specs.Answer.{unless, first}
 use Rattle.plan.specs.Plan.{networkOf}
 use Rattle.plan.specs.Judge.{planFault}
-use Rattle.tree.specs.Nodes.{legalLength, nodeCount, nodeAt}
+use Rattle.tree.specs.Nodes.{legalLength, nodeCount, nodeAt, hasNode, fromNode}
 use Rattle.tree.specs.Trees.{moveOf}
 use Rattle.game.specs.Position.{isLegal}
 use Rattle.checker.specs.declared.Checked.{Checked}
@@ -22,26 +22,26 @@ use Rattle.checker.specs.declared.Checked.the-variants as checked
 
 -- two runs of bytes, one behind the other: sound where both are, of as many nodes as both have, kept where both are
 abbrev pub together : Checked → Checked → Checked
-together checked.Unsound b = checked.Unsound
-together (checked.Sound n k) checked.Unsound = checked.Unsound
-together (checked.Sound n k) (checked.Sound m j) = checked.Sound (n + m) (k && j)
+together checked.Unsound next = checked.Unsound
+together (checked.Sound n a) checked.Unsound = checked.Unsound
+together (checked.Sound n a) (checked.Sound m b) = checked.Sound (n + m) (a && b)
 
 -- what is found at the place behind n nodes
 abbrev pub behind : Checked → (ℕ → Checked) → Checked
 behind checked.Unsound next = checked.Unsound
-behind (checked.Sound n k) next = together (checked.Sound n k) (next n)
+behind (checked.Sound n a) next = together (checked.Sound n a) (next n)
 
 -- the node at the front of the bytes and, behind it, the subtrees of its first k outcomes, each directly behind the one before
 unfoldable pub withSubtrees : (ℕ → List ℕ → Checked) → List ℕ → ℕ → Checked
 withSubtrees sub bs zero = checked.Sound 1 true
-withSubtrees sub bs (suc k) = behind (withSubtrees sub bs k) (λ n. sub k (drop (3 * n) bs))
+withSubtrees sub bs (suc k) = behind (withSubtrees sub bs k) (λ n. sub k (fromNode bs n))
 
 -- a whole node, a legal move, and behind it a subtree for each outcome
 unfoldable pub nodeAndBelow : (State → List ℕ → Checked) → Plan → State → List ℕ → Checked
 nodeAndBelow sub p s bs =
     let m = moveOf (nodeAt bs 0) in
     let sound = withSubtrees (λ k. sub (after (networkOf p) s m (outcomeAt (networkOf p) m k))) bs (outcomes (networkOf p) m) in
-    cond (leb 3 (length bs) && isLegal p s m) sound checked.Unsound
+    cond (hasNode bs && isLegal p s m) sound checked.Unsound
 
 -- The subtree at the front of the bytes, of at most n moves on a path: where no point is left a path ends, without a node, and its
 -- constraints are kept or not.
