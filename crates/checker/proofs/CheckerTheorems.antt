@@ -10,7 +10,7 @@ use lib.ListN.{length}
 use Rattle.network.specs.Network.{Network}
 use Rattle.network.specs.Strategy.{ConditionScenario, Viable, Dynamic}
 use Rattle.network.specs.Game.{start, Over, Kept}
-use Rattle.network.specs.Tree.{Tree, play, strategyOf}
+use Rattle.network.specs.Tree.{Tree, Wins, play, strategyOf}
 use Rattle.network.specs.FirstMoves.{SameTree}
 use Rattle.network.proofs.Booleans.{by-test, eqb-is, eqb-no}
 use Rattle.network.proofs.PathLaws.{same-strategy, ends, ends-over}
@@ -85,16 +85,20 @@ module _ (p : Plan) (wf : WellFormed p) (bs : List ℕ) where
   pub one-strategy : (t t′ : Tree) → Describes net bs t → Describes net bs t′ → strategyOf net t ≡ strategyOf net t′
   one-strategy t t′ d d′ = same-strategy net (is-network p wf) t t′ (one-tree t t′ d d′)
 
-  -- Each setting of the conditions walks one path of an accepted tree, to its end, and there every relevant constraint is kept; so the
-  -- outcomes of a last node that hears conditions are all tried, though it has no child.
+  -- Every path of an accepted tree ends where no point is left, and keeps every relevant constraint. A path goes on behind each outcome of
+  -- each node: those of a last node that hears conditions are all tried, though it has no child.
+  pub accepted-wins : checkFault p bs ≡ 0 → (t : Tree) → Describes net bs t → Wins net t
+  accepted-wins e t d =
+      tree-viable-exactly net (is-network p wf) t (d .shaped) .0
+      (⊎-elim (λ f. f .1) (λ f. let seven = f .0 in absurd (omega arith)) (yes-or-seven p wf bs t d))
+
+  -- .. so each setting of the conditions walks a path to its end, and keeps them
   pub every-path-kept :
       checkFault p bs ≡ 0 → (t : Tree) → Describes net bs t → (cs : ℕ) → ConditionScenario net cs →
       Over net (play net t (start net) cs) × Kept net (play net t (start net) cs)
   every-path-kept e t d cs c =
       let is-net = is-network p wf in
-      let viable : Viable net (strategyOf net t)
-      = ⊎-elim (λ f. f .1) (λ f. let seven = f .0 in absurd (omega arith)) (yes-or-seven p wf bs t d) in
-      let wins = tree-viable-exactly net is-net t (d .shaped) .0 viable in
+      let wins = accepted-wins e t d in
       (ends-over net is-net (Kept net) t (start net) cs wins, ends net is-net (Kept net) t (start net) cs wins)
 
   -- well-formed bytes are a multiple of 3 from 3 to 573, so no accepted byte string is longer
