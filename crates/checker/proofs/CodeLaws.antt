@@ -10,11 +10,11 @@ use native.Mathlib.Nat.{not-suc-le-zero}
 use native.Mathlib.Numerals.{add-one}
 use native.Mathlib.Omega.{arith}
 use borrow.Author.Tests.{lt-leb}
-use lib.ListN.{length, drop}
+use lib.ListN.{length}
 use Rattle.network.specs.Mask.{bit, count, submask}
 use Rattle.network.specs.Network.{keeps}
 use Rattle.network.specs.Game.{start, Legal, Outcome, outcomes, outcomeAt, after}
-use Rattle.network.proofs.Booleans.{leb-yes, eqb-yes, eqb-no}
+use Rattle.network.proofs.Booleans.{eqb-yes, eqb-no}
 use Rattle.network.proofs.GameLaws.{outcome-at-is}
 use Rattle.plan.specs.declared.Plan.{Plan}
 use Rattle.plan.specs.declared.Refusal.{Refusal}
@@ -29,7 +29,7 @@ use Rattle.plan.specs.Judge.{planFault}
 use Rattle.plan.proofs.RefusalLaws.{some-number}
 use Rattle.plan.proofs.OutcomeLaws.{submasks-are-outcomes, numbered-is-outcome}
 use Rattle.tree.specs.declared.Node.{Node}
-use Rattle.tree.specs.Nodes.{legalLength, nodeCount, nodeAt}
+use Rattle.tree.specs.Nodes.{legalLength, nodeCount, nodeAt, fromNode}
 use Rattle.tree.specs.Trees.{moveOf}
 use Rattle.game.specs.declared.Position.{Position}
 use Rattle.game.specs.Position.{stateOf, Proper, isLegal, positionAfter}
@@ -38,7 +38,7 @@ use Rattle.game.proofs.PositionLaws.{inside-is, over-is-zero, kept-is, after-is
 use Rattle.checker.specs.declared.Checked.{Checked}
 use Rattle.checker.specs.declared.Checked.the-variants as checked
 use Rattle.checker.specs.Checker.{withSubtrees, nodeAndBelow, subtreeAt, treeFault, checkFault}
-use Rattle.checker.proofs.SubtreeLaws.{step, at-end, fits}
+use Rattle.checker.proofs.SubtreeLaws.{sound-together, legal-node, step, at-end, fits}
 
 -- ---- the loop
 
@@ -50,12 +50,12 @@ subtrees-none sub bs = refl
 module _ (sub : ℕ → List ℕ → Checked) (bs : List ℕ) (k n : ℕ) (b : Bool) (so-far : withSubtrees sub bs k ≡ checked.Sound n b) where
   -- one more subtree
   pub subtrees-on :
-      (m : ℕ) (c : Bool) → sub k (drop (3 * n) bs) ≡ checked.Sound m c → withSubtrees sub bs (k + 1) ≡ checked.Sound (n + m) (b && c)
+      (m : ℕ) (c : Bool) → sub k (fromNode bs n) ≡ checked.Sound m c → withSubtrees sub bs (k + 1) ≡ checked.Sound (n + m) (b && c)
   unfolding withSubtrees
-  subtrees-on m c e = rw (add-one k, so-far, e)
+  subtrees-on m c e = rw (add-one k) (sound-together (withSubtrees sub bs k) (λ i. sub k (fromNode bs i)) n m (n + m) b c so-far e refl)
 
   -- one that is not sound: those behind it change nothing
-  pub subtrees-stop : sub k (drop (3 * n) bs) ≡ checked.Unsound → (j : ℕ) → k < j → withSubtrees sub bs j ≡ checked.Unsound
+  pub subtrees-stop : sub k (fromNode bs n) ≡ checked.Unsound → (j : ℕ) → k < j → withSubtrees sub bs j ≡ checked.Unsound
   unfolding withSubtrees
   subtrees-stop e zero lt = absurd (not-suc-le-zero lt)
   subtrees-stop e (suc j) lt =
@@ -111,8 +111,7 @@ module _ (p : Plan) (wf : WellFormed p) (at : Position) (ok : Proper p at) (bs :
 
     is-read :
         3 ≤ length bs → isLegal p (stateOf p at) (moveOf (nodeAt bs 0)) ≡ true → subtreeAt p (stateOf p at) bs ≡ subtreesOf (nodeAt bs 0)
-    unfolding nodeAndBelow
-    is-read whole legal = goes-on ∙ rw (leb-yes 3 (length bs) whole, legal)
+    is-read whole legal = goes-on ∙ legal-node p (subtreeAt p) (stateOf p at) bs whole legal
 
     -- a legal move
     module _

@@ -11,9 +11,8 @@ use lib.ListN.{length, drop}
 use lib.Seq.{drop-at}
 use Rattle.network.specs.Mask.{allBelow, sumBelow, joinBelow}
 use Rattle.network.specs.Network.{Network}
-use Rattle.network.specs.Game.{State, Move, Legal, outcomes, outcomeAt, after, kept, Kept}
+use Rattle.network.specs.Game.{State, Move, outcomes, outcomeAt, after, kept, Kept}
 use Rattle.network.specs.Tree.{Tree, done, node, Sound, nodes, pointsLeft}
-use Rattle.network.proofs.Booleans.{and-make, leb-yes}
 use Rattle.network.proofs.BelowLaws.{all-at, all-make}
 use Rattle.network.proofs.JoinLaws.{join-lengths}
 use Rattle.network.proofs.GameLaws.{Inside, outcome-at-is, outcome-numbered, after-inside, fewer-left}
@@ -29,7 +28,7 @@ use Rattle.game.proofs.LegalLaws.{legal-exactly}
 use Rattle.checker.specs.declared.Checked.{Checked}
 use Rattle.checker.specs.declared.Checked.the-variants as checked
 use Rattle.checker.specs.Checker.{withSubtrees, nodeAndBelow, subtreeIn}
-use Rattle.checker.proofs.SubtreeLaws.{sound-together}
+use Rattle.checker.proofs.SubtreeLaws.{sound-together, legal-node}
 
 -- sound in shape, from any state
 abbrev pub ShapedFrom : Network → Tree → State → Type 0
@@ -84,15 +83,6 @@ module _ (p : Plan) (wf : WellFormed p) where
   abbrev net : Network
   net = networkOf p
 
-  -- the node at the front of its bytes
-  node-found :
-      (sub : State → List ℕ → Checked) (s : State) (m : Move) (u : List ℕ) → Inside net s → Legal net s m →
-      nodeAndBelow sub p s (nodeBytes (nodeOf m) ++ u)
-      ≡ withSubtrees (λ k. sub (after net s m (outcomeAt net m k))) (nodeBytes (nodeOf m) ++ u) (outcomes net m)
-  unfolding nodeAndBelow
-  node-found sub s m u in-s lg =
-      rw (and-make (leb-yes 3 (length (nodeBytes (nodeOf m) ++ u)) (omega arith)) (legal-exactly p wf s in-s m .1 lg))
-
   -- n is more than the moves on any path
   pub complete :
       (t : Tree) (n : ℕ) (s : State) (u : List ℕ) → Inside net s → pointsLeft net s < n → ShapedFrom net t s →
@@ -104,7 +94,7 @@ module _ (p : Plan) (wf : WellFormed p) where
       let lg = sd .0 in
       rw (is-not-over net s m lg)
       (ap (nodeAndBelow (subtreeIn n p) p s) (node-bytes-front net m next u)
-      ∙ node-found (subtreeIn n p) s m _ in-s lg
+      ∙ legal-node p (subtreeIn n p) s _ (omega arith) (legal-exactly p wf s in-s m .1 lg)
       ∙ subtrees-found _ m (λ k. treeBytes net (next (outcomeAt net m k))) _ _ (λ k. tree-length net (next (outcomeAt net m k)))
       (λ k v. let o = outcomeAt net m k in
       let f = fewer-left net s m o lg in

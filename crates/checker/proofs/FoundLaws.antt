@@ -3,7 +3,7 @@
 use mathlib.Core.Path.{_≡_, refl, sym, ap, _∙_, subst}
 use mathlib.Core.Logic.{by-cases}
 use mathlib.Core.Bool.{Bool, true, cond}
-use mathlib.Core.List.{List, [], _∷_, _++_, append-assoc}
+use mathlib.Core.List.{List, _++_, append-assoc}
 use Prim.Native.Nat.{ℕ, zero, suc, _+_, _*_, _≤_, _<_}
 use native.Mathlib.Omega.{arith}
 use native.Mathlib.Nat.{not-suc-le-zero}
@@ -27,6 +27,7 @@ use Rattle.plan.specs.Plan.{networkOf}
 use Rattle.plan.specs.WellFormed.{WellFormed}
 use Rattle.tree.specs.Nodes.{nodeBytes, nodeAt}
 use Rattle.tree.specs.Trees.{nodeOf, treeBytes}
+use Rattle.tree.proofs.NodeLaws.{front-node}
 use Rattle.tree.proofs.TreeLaws.{tree-length, done-bytes, node-bytes-front}
 use Rattle.game.proofs.LegalLaws.{legal-exactly}
 use Rattle.checker.specs.declared.Checked.{Checked}
@@ -48,13 +49,6 @@ then-before f k t i lt = rw (ltb-yes i k lt)
 then-last : (f : ℕ → Tree) (k : ℕ) (t : Tree) → then f k t k ≡ t
 unfolding then
 then-last f k t = rw (ltb-no k k (λ lt. absurd (omega arith)))
-
--- bytes begin with those of their first node
-front-node : (bs : List ℕ) → 3 ≤ length bs → bs ≡ nodeBytes (nodeAt bs 0) ++ drop 3 bs
-front-node [] h = absurd (omega arith)
-front-node (a ∷ []) h = absurd (omega arith)
-front-node (a ∷ b ∷ []) h = absurd (omega arith)
-front-node (a ∷ b ∷ c ∷ bs) h = refl
 
 module _ (net : Network) where
   -- a tree of n nodes that is sound in shape from the state s, at the front of the bytes

@@ -12,7 +12,7 @@ use Rattle.network.specs.Network.{Network}
 use Rattle.network.specs.Game.{State, Move, Legal, outcomes, outcomeAt, after, kept}
 use Rattle.network.specs.Tree.{pointsLeft}
 use Rattle.network.specs.Search.{over}
-use Rattle.network.proofs.Booleans.{by-test, and-left, and-right, leb-is}
+use Rattle.network.proofs.Booleans.{by-test, and-left, and-right, leb-yes, leb-is}
 use Rattle.network.proofs.GameLaws.{Inside, after-inside, fewer-left}
 use Rattle.plan.specs.declared.Plan.{Plan}
 use Rattle.plan.specs.Plan.{networkOf}
@@ -65,6 +65,12 @@ module _ (p : Plan) (sub : State → List ℕ → Checked) (s : State) (bs : Lis
   -- what is found at the place of the subtree of each outcome
   abbrev pub subtreesBelow : ℕ → List ℕ → Checked
   subtreesBelow k = sub (after (networkOf p) s (frontMove bs) (outcomeAt (networkOf p) (frontMove bs) k))
+
+  pub legal-node :
+      3 ≤ length bs → isLegal p s (frontMove bs) ≡ true →
+      nodeAndBelow sub p s bs ≡ withSubtrees subtreesBelow bs (outcomes (networkOf p) (frontMove bs))
+  unfolding nodeAndBelow
+  legal-node whole legal = rw (leb-yes 3 (length bs) whole, legal)
 
   -- a sound answer: a whole node, a legal move, sound subtrees
   pub record SoundNode (n : ℕ) (b : Bool) : Type 0 where

@@ -2,12 +2,12 @@
 use mathlib.Core.Path.{_≡_, refl, sym, _∙_, fun-ext}
 use mathlib.Core.Logic.{by-cases}
 use mathlib.Core.Bool.{Bool, true, false, not, cond, _&&_, _||_, and-false, or-false}
-use Prim.Native.Nat.{ℕ, zero, suc, _<_}
+use Prim.Native.Nat.{ℕ, _<_}
 use native.Mathlib.Omega.{arith}
 use native.Mathlib.Decide.{decLt}
 use native.Mathlib.Numerals.{add-one}
 use lib.Dec.{ltb}
-use lib.ListN.{length, replicate, List·getD-eq-default}
+use lib.ListN.{length, List·getD-eq-default}
 use Rattle.network.specs.Mask.{bit, mask, count}
 use Rattle.network.specs.Network.{Network, condition, decision, keeps}
 use Rattle.network.specs.Game.{start, hears, settles, Legal, Outcome, after, kept}
@@ -22,6 +22,7 @@ use Rattle.plan.specs.declared.Plan.{Plan}
 use Rattle.plan.specs.Plan.{networkOf}
 use Rattle.plan.specs.Constraints.{slotsIn}
 use Rattle.plan.specs.WellFormed.{WellFormed}
+use Rattle.plan.proofs.SliceLaws.{all-same}
 use Rattle.plan.proofs.WellFormedLaws.{network-of-well-formed}
 use Rattle.tree.specs.declared.Node.{Node}
 use Rattle.tree.specs.Trees.{moveOf}
@@ -35,11 +36,6 @@ none-set n f =
     no-bits _ (λ l. by-test (bit (mask n (λ l. f l && bit 0 l)) l)
     (λ y. clash (and-right (f l) (bit 0 l) (in-mask n _ l y .1)) (bit-zero l))
     (λ z. z))
-
-zeros : (n x : ℕ) → slotsIn (replicate n 0) x ≡ 0
-zeros zero x = refl
-zeros (suc n) zero = refl
-zeros (suc n) (suc x) = zeros n x
 
 -- a letter of the kind k has the new value where it is disclosed now, and the old one else
 value-after :
@@ -63,7 +59,7 @@ module _ (p : Plan) (wf : WellFormed p) where
   unfolding start
   start-is =
       let left = mask-first (p .points) 8 (wf .points) in
-      let slots = fun-ext (zeros 8) in
+      let slots = fun-ext (all-same {E = ℕ} 8 0) in
       let heard = none-set (p .letters) (condition net) in
       let decided = none-set (p .letters) (decision net) in
       λ i. record { open-from = 0; left = left i; slots = slots i; heard = heard i; decided = decided i }

@@ -7,11 +7,12 @@ use native.Mathlib.Omega.{arith}
 use native.Mathlib.Nat.{not-suc-le-zero}
 use native.Mathlib.Numerals.{add-one}
 use native.Mathlib.Decide.{decLt, ℕ-discrete}
-use lib.ListN.{length, getD, set, drop, replicate, length-set, length-replicate, getD-replicate, List·getD-eq-default}
+use lib.ListN.{length, getD, set, drop, replicate, length-set, length-replicate}
 use lib.Seq.{getD-set-same, getD-set-other, ext-getD}
 use Rattle.network.specs.Mask.{joinBelow}
 use Rattle.network.proofs.JoinLaws.{join-cong}
 use Rattle.plan.specs.Answer.{Answer, fine}
+use Rattle.plan.proofs.SliceLaws.{all-same}
 use Rattle.frame.specs.Frame.{frameLength}
 use Rattle.frame.specs.Texts.{framesFrom}
 use Rattle.frame.proofs.RunLaws.{run-back, run-invariant}
@@ -30,12 +31,6 @@ module _ {E : Type 0} (d : E) where
   -- what is good as entry i depends on the earlier entries alone
   abbrev pub ByEarlier : (List E → ℕ → E → Type 0) → Type 0
   ByEarlier Good = (xs ys : List E) (i : ℕ) (x : E) → SameBelow i xs ys → Good xs i x → Good ys i x
-
-  unused-all : (n : ℕ) → UnusedFrom 0 (replicate n d)
-  unused-all n k _ =
-      by-cases (decLt k n)
-      (getD-replicate n k d d)
-      (λ ge. List·getD-eq-default (replicate n d) d (rw (length-replicate n d) (omega arith)))
 
   unused-next : (i : ℕ) (xs : List E) (x : E) → UnusedFrom i xs → UnusedFrom (suc i) (set xs i x)
   unused-next i xs x h k le = getD-set-other xs i k x d (omega arith) ∙ h k (omega arith)
@@ -63,7 +58,7 @@ module _ {E : Type 0} (d : E) where
 
   front-unused : (ys : List E) (i : ℕ) → UnusedFrom i (front ys i)
   unfolding front
-  front-unused ys zero = unused-all (length ys)
+  front-unused ys zero = λ k _. all-same (length ys) d k
   front-unused ys (suc i) = unused-next i (front ys i) (getD ys i d) (front-unused ys i)
 
   front-all : (ys : List E) (i : ℕ) → i ≤ length ys → UnusedFrom i ys → front ys i ≡ ys
@@ -83,7 +78,7 @@ module _ {E : Type 0} (d : E) (n : ℕ) (Good : List E → ℕ → E → Type 0)
   filled-start : (t : List ℕ) → Filled t 0 (replicate n d) t
   unfolding joinBelow
   filled-start t =
-      record { said = refl; long = length-replicate n d; good = λ k lt. absurd (not-suc-le-zero lt); unused = unused-all d n }
+      record { said = refl; long = length-replicate n d; good = λ k lt. absurd (not-suc-le-zero lt); unused = λ k _. all-same n d k }
 
   filled-next :
       ByEarlier d Good → (t : List ℕ) (i : ℕ) (xs : List E) (x : E) (r : List ℕ) → i < n → Filled t i xs (text i x ++ r) → Good xs i x →

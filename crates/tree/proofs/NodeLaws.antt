@@ -5,7 +5,7 @@ use mathlib.Core.List.{List, [], _∷_, _++_}
 use Prim.Native.Nat.{ℕ, zero, suc, _+_, _*_, _/_, _%_, _≤_, _<_}
 use native.Mathlib.Omega.{arith}
 use lib.Dec.{leb, eqb}
-use lib.ListN.{length, getD}
+use lib.ListN.{length, getD, drop}
 use lib.Seq.{getD-drop}
 use Rattle.network.specs.Mask.{joinBelow}
 use Rattle.network.proofs.Booleans.{and-left, and-right, and-make, leb-yes, leb-is, eqb-yes, eqb-is}
@@ -48,6 +48,13 @@ bytes-of-nodes (suc n) (a ∷ b ∷ c ∷ bs) e =
     join-first n (λ k. nodeBytes (nodeAt (a ∷ b ∷ c ∷ bs) k))
     ∙ ap (λ (l : List ℕ). a ∷ b ∷ c ∷ l)
     (join-cong n _ _ (λ k lt. ap nodeBytes (node-next a b c bs k)) ∙ bytes-of-nodes n bs (omega arith))
+
+-- bytes begin with those of their first node
+pub front-node : (bs : List ℕ) → 3 ≤ length bs → bs ≡ nodeBytes (nodeAt bs 0) ++ drop 3 bs
+front-node [] h = absurd (omega arith)
+front-node (a ∷ []) h = absurd (omega arith)
+front-node (a ∷ b ∷ []) h = absurd (omega arith)
+front-node (a ∷ b ∷ c ∷ bs) h = refl
 
 -- ---- legal lengths
 

@@ -24,7 +24,7 @@ movesBytes (m ∷ ms) = nodeBytes (nodeOf m) ++ movesBytes ms
 abbrev pub treeBytes : Network → Tree → List ℕ
 treeBytes net t = movesBytes (preorder net t)
 
--- The bytes describe the tree: it is sound in shape, and they are its bytes and end where they end.
+-- The bytes describe the tree: it is sound in shape, and they are its bytes, with nothing behind them.
 pub record Describes (net : Network) (bs : List ℕ) (t : Tree) : Type 0 where
   pub shaped : Shaped net t
   pub all-bytes : bs ≡ treeBytes net t
