@@ -12,7 +12,7 @@ use native.Mathlib.Omega.{arith}
 use borrow.Author.Tests.{lt-leb}
 use lib.ListN.{length}
 use Rattle.network.specs.Mask.{bit, count, submask}
-use Rattle.network.specs.Network.{keeps}
+use Rattle.network.specs.Network.{keeps, slotsIn}
 use Rattle.network.specs.Game.{start, Legal, Outcome, outcomes, outcomeAt, after}
 use Rattle.network.proofs.Booleans.{eqb-yes, eqb-no}
 use Rattle.network.proofs.GameLaws.{outcome-at-is}
@@ -22,7 +22,6 @@ use Rattle.plan.specs.declared.Refusal.the-variants as refusal
 use Rattle.plan.specs.Refusal.{refusalNumber}
 use Rattle.plan.specs.Answer.{unless, first}
 use Rattle.plan.specs.Plan.{networkOf}
-use Rattle.plan.specs.Constraints.{slotsIn}
 use Rattle.plan.specs.Letters.{heardBy}
 use Rattle.plan.specs.WellFormed.{WellFormed}
 use Rattle.plan.specs.Judge.{planFault}

@@ -9,7 +9,7 @@ use native.Mathlib.Numerals.{add-one}
 use lib.Dec.{ltb}
 use lib.ListN.{length, List·getD-eq-default}
 use Rattle.network.specs.Mask.{bit, mask, count}
-use Rattle.network.specs.Network.{Network, condition, decision, keeps}
+use Rattle.network.specs.Network.{Network, condition, decision, keeps, slotsIn}
 use Rattle.network.specs.Game.{start, hears, settles, Legal, Outcome, after, kept}
 use Rattle.network.specs.Search.{over}
 use Rattle.network.proofs.Booleans.{by-test, clash, and-left, and-right, not-true, ltb-is}
@@ -20,7 +20,6 @@ use Rattle.network.proofs.GameLaws.{Inside, heard-condition, heard-point, settl
 use Rattle.network.proofs.SearchLaws.{over-is}
 use Rattle.plan.specs.declared.Plan.{Plan}
 use Rattle.plan.specs.Plan.{networkOf}
-use Rattle.plan.specs.Constraints.{slotsIn}
 use Rattle.plan.specs.WellFormed.{WellFormed}
 use Rattle.plan.proofs.SliceLaws.{all-same}
 use Rattle.plan.proofs.WellFormedLaws.{network-of-well-formed}

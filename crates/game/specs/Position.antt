@@ -8,13 +8,12 @@ use Prim.Native.Nat.{ℕ, _+_, _<_}
 use lib.Dec.{leb, ltb, eqb}
 use lib.ListN.{getD, replicate}
 use Rattle.network.specs.Mask.{bit, mask}
-use Rattle.network.specs.Network.{condition, decision}
+use Rattle.network.specs.Network.{condition, decision, slotsIn}
 use Rattle.network.specs.Game.{State, Move}
 use Rattle.plan.specs.declared.Plan.{Plan}
 use Rattle.plan.specs.Plan.{listed, networkOf}
 use Rattle.plan.specs.Masks.{inside}
 use Rattle.plan.specs.Letters.{settledBy}
-use Rattle.plan.specs.Constraints.{slotsIn}
 use Rattle.tree.specs.declared.Node.{Node}
 use Rattle.game.specs.declared.Position.{Position}
 

@@ -1,6 +1,8 @@
 -- Definitions: the modules of this folder, in the order in which they are read. A reader must believe them.
 pub mod Mask
 pub mod Network
+pub mod Fixed
+pub mod Raise
 pub mod Strategy
 pub mod Game
 pub mod Tree

@@ -5,6 +5,7 @@ use mathlib.Core.List.{List, [], _∷_}
 use Prim.Native.Nat.{ℕ, suc, _+_, _≤_, _<_}
 use lib.IntN.{ℤ, pos, negsuc}
 use lib.Dec.{leb, ltb}
+use lib.ListN.{getD}
 use Rattle.network.specs.Mask.{bit, allBelow}
 
 -- Definition 1. A label is a conjunction of literals: the letters of the mask `need`, each with the value that the mask `truth` shows.
@@ -67,6 +68,10 @@ projection net s = projected s (net .constraints)
 -- Definition 5. A schedule gives each point a slot.
 abbrev pub Schedule : Type 0
 Schedule = ℕ → ℕ
+
+-- the schedule that a list of slots gives; 0 past its end
+abbrev pub slotsIn : List ℕ → Schedule
+slotsIn slots x = getD slots x 0
 
 -- y − x ≤ d, where `pos d` is d and `negsuc d` is −(d + 1)
 unfoldable pub atMost : ℕ → ℕ → ℤ → Bool

@@ -4,9 +4,9 @@ use crate::Plan;
 ghost use mathlib.Core.Path.{_≡_};
 ghost use lib.ListN.{getD};
 ghost use Rattle.network.specs.Mask.{bit};
-ghost use Rattle.network.specs.Network.{holds, atMost, keeps};
+ghost use Rattle.network.specs.Network.{holds, atMost, keeps, slotsIn};
 ghost use Rattle.plan.specs.Plan.{constraintAt, labelOf, signed, networkOf};
-ghost use Rattle.plan.specs.Constraints.{slotsIn, keepsOne};
+ghost use Rattle.plan.specs.Constraints.{keepsOne};
 
 // Constraint j; the zero constraint past the array.
 pub fn constraint_at(plan: Plan, j: u8) -> Constraint

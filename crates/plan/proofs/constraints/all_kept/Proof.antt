@@ -5,11 +5,12 @@ use mathlib.Core.List.{List}
 use Prim.Native.Nat.{ℕ, _-_, _≤_}
 use native.Mathlib.Omega.{arith}
 use borrow.Author.Needs.{needs}
+use Rattle.network.specs.Network.{slotsIn}
 use Rattle.network.specs.Mask.{bit, allBelow}
 use Rattle.network.proofs.Booleans.{not-true, not-false}
 use Rattle.plan.specs.declared.Plan.{Plan}
 use Rattle.plan.specs.Plan.{constraintAt}
-use Rattle.plan.specs.Constraints.{slotsIn, keepsOne}
+use Rattle.plan.specs.Constraints.{keepsOne}
 use Rattle.network.proofs.BelowLaws.{all-start, all-next, all-fails}
 use Rattle.plan.proofs.ConstraintLaws.{keeps-all}
 use Rattle.plan.proofs.constraints.all_kept.Statement.{statement}
