@@ -12,8 +12,8 @@ use Rattle.plan.specs.declared.Plan.{Plan}
 use Rattle.plan.specs.declared.Constraint.{Constraint}
 use Rattle.plan.specs.Answer.{unless, first}
 use Rattle.plan.specs.Plan.{signed, listed}
-use Rattle.plan.specs.Judge.{headFine, takenBefore, letterFine, letterUnused, letterEntry, lettersFine, boundFine, constraintFine, constraintUnused, constraintEntry, constraintsFine, planFault}
 use Rattle.plan.proofs.Cases.{letter, constraint, plan, record-of, k4, k5}
+use Rattle.judge.specs.Judge.{headFine, takenBefore, letterFine, letterUnused, letterEntry, lettersFine, boundFine, constraintFine, constraintUnused, constraintEntry, constraintsFine, planFault}
 use Rattle.tree.specs.Nodes.{legalLength}
 use Rattle.game.specs.Position.{isLegal}
 use Rattle.checker.specs.Checker.{withSubtrees, nodeAndBelow, subtreeIn, treeFault, checkFault}

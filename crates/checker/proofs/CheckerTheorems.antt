@@ -23,10 +23,10 @@ use Rattle.plan.specs.Refusal.{refusalNumber, judgedNumber}
 use Rattle.plan.specs.Answer.{first}
 use Rattle.plan.specs.Plan.{networkOf}
 use Rattle.plan.specs.WellFormed.{WellFormed}
-use Rattle.plan.specs.Judge.{planFault}
-use Rattle.plan.proofs.WellFormedLaws.{fine-exactly}
 use Rattle.plan.proofs.PlanTheorems.{is-network}
 use Rattle.plan.proofs.RefusalLaws.{fine-is}
+use Rattle.judge.specs.Judge.{planFault}
+use Rattle.judge.proofs.WellFormedLaws.{fine-exactly}
 use Rattle.tree.specs.Nodes.{mostBytes, legalLength}
 use Rattle.tree.specs.Trees.{Describes, WellFormedBytes}
 use Rattle.tree.proofs.NodeLaws.{legal-is}

@@ -24,9 +24,9 @@ use Rattle.plan.specs.Answer.{unless, first}
 use Rattle.plan.specs.Plan.{networkOf}
 use Rattle.plan.specs.Letters.{heardBy}
 use Rattle.plan.specs.WellFormed.{WellFormed}
-use Rattle.plan.specs.Judge.{planFault}
 use Rattle.plan.proofs.RefusalLaws.{some-number}
 use Rattle.plan.proofs.OutcomeLaws.{submasks-are-outcomes, numbered-is-outcome}
+use Rattle.judge.specs.Judge.{planFault}
 use Rattle.tree.specs.declared.Node.{Node}
 use Rattle.tree.specs.Nodes.{legalLength, nodeCount, nodeAt, fromNode}
 use Rattle.tree.specs.Trees.{moveOf}

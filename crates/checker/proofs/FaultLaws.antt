@@ -22,8 +22,8 @@ use Rattle.plan.specs.Refusal.{refusalNumber}
 use Rattle.plan.specs.Answer.{unless, first}
 use Rattle.plan.specs.Plan.{networkOf}
 use Rattle.plan.specs.WellFormed.{WellFormed}
-use Rattle.plan.proofs.WellFormedLaws.{fine-exactly}
 use Rattle.plan.proofs.PlanTheorems.{is-network, at-most-191}
+use Rattle.judge.proofs.WellFormedLaws.{fine-exactly}
 use Rattle.tree.specs.Nodes.{legalLength, nodeCount}
 use Rattle.tree.specs.Trees.{treeBytes, Describes, WellFormedBytes}
 use Rattle.tree.proofs.NodeLaws.{legal-is, legal-make}

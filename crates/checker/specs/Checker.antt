@@ -13,7 +13,7 @@ use Rattle.plan.specs.declared.Refusal.the-variants as refusal
 use Rattle.plan.specs.Refusal.{refusalNumber}
 use Rattle.plan.specs.Answer.{unless, first}
 use Rattle.plan.specs.Plan.{networkOf}
-use Rattle.plan.specs.Judge.{planFault}
+use Rattle.judge.specs.Judge.{planFault}
 use Rattle.tree.specs.Nodes.{legalLength, nodeCount, nodeAt, hasNode, fromNode}
 use Rattle.tree.specs.Trees.{moveOf}
 use Rattle.game.specs.Position.{isLegal}

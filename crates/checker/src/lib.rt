@@ -3,10 +3,7 @@ use game::Position;
 use plan::Judged;
 use plan::Plan;
 use plan::Refusal;
-use plan::constraints;
-use plan::judge;
 use plan::letters;
-use plan::mask;
 ghost use mathlib.Core.Path.{_≡_};
 ghost use Rattle.plan.specs.Refusal.{judgedNumber};
 ghost use Rattle.plan.specs.WellFormed.{WellFormed};
@@ -37,12 +34,12 @@ fn subtree(plan: Plan, nodes: &[u8], at: Position) -> Checked
         return Checked::Unsound;
     }
     let heard = letters::heard(plan, v.points);
-    let outcomes = mask::submasks(heard);
+    let outcomes = masks::submasks(heard);
     let mut count: usize = 1;
     let mut kept = true;
     let mut k: u16 = 0;
     while k < outcomes {
-        let next = game::after(at, v, mask::numbered(heard, k));
+        let next = game::after(at, v, masks::numbered(heard, k));
         let below = subtree(plan, &nodes[3 * count..], next);
         let Checked::Sound(m, b) = below else {
             return Checked::Unsound;

@@ -6,7 +6,7 @@ use Prim.Native.Nat.{_<_}
 use native.Mathlib.Omega.{arith}
 use lib.Dec.{eqb}
 use Rattle.network.specs.Game.{State, Move, settles, Legal}
-use Rattle.network.proofs.Booleans.{clash, differs, eqb-no}
+use Rattle.network.proofs.Booleans.{clash, differs, eqb-no, says-le, says-not, _also_}
 use Rattle.network.proofs.MaskLaws.{bit-zero, bit-mask, in-mask}
 use Rattle.network.proofs.MachineLaws.{subset-is}
 use Rattle.network.proofs.NetworkLaws.{decision-lt}
@@ -16,7 +16,6 @@ use Rattle.plan.specs.declared.Plan.{Plan}
 use Rattle.plan.specs.Plan.{networkOf}
 use Rattle.plan.specs.Letters.{settledBy}
 use Rattle.plan.specs.WellFormed.{WellFormed}
-use Rattle.plan.proofs.WellFormedLaws.{says-le, says-not, _also_}
 use Rattle.game.specs.Position.{isLegal}
 
 module _ (p : Plan) (wf : WellFormed p) (s : State) (in-s : Inside (networkOf p) s) (m : Move) where

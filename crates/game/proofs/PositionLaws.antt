@@ -22,7 +22,7 @@ use Rattle.plan.specs.declared.Plan.{Plan}
 use Rattle.plan.specs.Plan.{networkOf}
 use Rattle.plan.specs.WellFormed.{WellFormed}
 use Rattle.plan.proofs.SliceLaws.{all-same}
-use Rattle.plan.proofs.WellFormedLaws.{network-of-well-formed}
+use Rattle.plan.proofs.PlanLaws.{network-of-well-formed}
 use Rattle.tree.specs.declared.Node.{Node}
 use Rattle.tree.specs.Trees.{moveOf}
 use Rattle.game.specs.declared.Position.{Position}

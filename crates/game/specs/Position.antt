@@ -10,9 +10,9 @@ use lib.ListN.{getD, replicate}
 use Rattle.network.specs.Mask.{bit, mask}
 use Rattle.network.specs.Network.{condition, decision, slotsIn}
 use Rattle.network.specs.Game.{State, Move}
+use Rattle.masks.specs.Masks.{inside}
 use Rattle.plan.specs.declared.Plan.{Plan}
 use Rattle.plan.specs.Plan.{listed, networkOf}
-use Rattle.plan.specs.Masks.{inside}
 use Rattle.plan.specs.Letters.{settledBy}
 use Rattle.tree.specs.declared.Node.{Node}
 use Rattle.game.specs.declared.Position.{Position}

@@ -1,7 +1,6 @@
 // The game in code: a position, the legal moves, what a move and its outcome lead to.
 use plan::Plan;
 use plan::letters;
-use plan::mask;
 use tree::Node;
 ghost use mathlib.Core.Path.{_≡_};
 ghost use Rattle.network.specs.Mask.{mask};
@@ -47,8 +46,8 @@ pub fn legal(plan: Plan, at: Position, v: Node) -> bool
     (at.earliest <= v.slot as u16)
         & (v.slot <= plan.horizon)
         & (v.points != 0)
-        & mask::subset(v.points, at.left)
-        & mask::subset(v.choices, letters::settled(plan, v.points))
+        & masks::subset(v.points, at.left)
+        & masks::subset(v.choices, letters::settled(plan, v.points))
 }
 
 // The slots, with this slot given to each of these points.
@@ -58,7 +57,7 @@ fn slots_after(slots: [u8; 8], points: u8, slot: u8) -> [u8; 8]
     let mut out = slots;
     let mut x: u8 = 0;
     while x < 8 {
-        if mask::has(points, x) {
+        if masks::has(points, x) {
             out[x as usize] = slot;
         }
         x += 1;

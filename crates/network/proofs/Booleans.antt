@@ -1,6 +1,6 @@
 -- Laws of Booleans and of tests of numbers. Only the checker need believe this file.
 use mathlib.Core.Path.{_≡_, refl, sym, _∙_, subst}
-use mathlib.Core.Logic.{_≢_}
+use mathlib.Core.Logic.{_≢_, _↔_, _⊎_, inl, inr, ⊎-elim}
 use mathlib.Core.Bool.{Bool, true, false, not, _&&_, _||_, true≢false}
 use Prim.Native.Nat.{ℕ, _≤_, _<_}
 use lib.Dec.{T, leb, ltb, eqb, leb→le, le→leb, ltb→lt, lt→ltb, eqb→eq, eqb-refl}
@@ -84,3 +84,28 @@ eqb-no a b n = by-test (eqb a b) (λ y. absurd (n (eqb-is a b y))) (λ z. z)
 
 pub differs : (a b : ℕ) → eqb a b ≡ false → a ≢ b
 differs a b z e = clash (eqb-yes a b e) z
+
+-- ---- what a test says
+
+pub says-le : (a b : ℕ) → (leb a b ≡ true) ↔ (a ≤ b)
+says-le a b = (leb-is a b, leb-yes a b)
+
+pub says-lt : (a b : ℕ) → (ltb a b ≡ true) ↔ (a < b)
+says-lt a b = (ltb-is a b, ltb-yes a b)
+
+pub says-eq : (a b : ℕ) → (eqb a b ≡ true) ↔ (a ≡ b)
+says-eq a b = (eqb-is a b, eqb-yes a b)
+
+pub says-not : (b : Bool) → (not b ≡ true) ↔ (b ≡ false)
+says-not b = (not-true b, λ e. rw e)
+
+-- `and`, of two tests that say A and B
+infixl 35 _also_
+pub _also_ : {a b : Bool} {A B : Type 0} → ((a ≡ true) ↔ A) → ((b ≡ true) ↔ B) → ((a && b) ≡ true) ↔ (A × B)
+_also_ {a} {b} f g = (λ t. (f .0 (and-left a b t), g .0 (and-right a b t)), λ h. and-make (f .1 (h .0)) (g .1 (h .1)))
+
+pub says-or : {a b : Bool} {A B : Type 0} → ((a ≡ true) ↔ A) → ((b ≡ true) ↔ B) → ((a || b) ≡ true) ↔ (A ⊎ B)
+says-or {a} {b} f g = (
+  λ t. by-test a (λ y. inl (f .0 y)) (λ z. inr (g .0 (rw z at t))),
+  λ h. ⊎-elim (λ x. rw (f .1 x)) (λ y. or-right a (g .1 y)) h,
+)

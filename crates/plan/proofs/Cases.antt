@@ -1,5 +1,5 @@
--- Cases: plan records of document 01 and at the edges of its ranges, judged, and the networks that they describe, computed. Only the
--- checker need believe this file; a reader may like to.
+-- Cases: plan records of document 01 and the networks that they describe, computed; answers and lent buffers. Only the checker need
+-- believe this file; a reader may like to.
 use mathlib.Core.Path.{_≡_, refl}
 use mathlib.Core.List.{List, [], _∷_, _++_}
 use mathlib.Core.Bool.{true, false}
@@ -13,11 +13,8 @@ use Rattle.network.specs.Search.{over, winsBy, winsWith, winsIn, winnable, firs
 use Rattle.plan.specs.declared.Letter.{Letter}
 use Rattle.plan.specs.declared.Constraint.{Constraint}
 use Rattle.plan.specs.declared.Plan.{Plan}
-use Rattle.plan.specs.declared.Refusal.the-variants as refusal
-use Rattle.plan.specs.Refusal.{refusalNumber}
-use Rattle.plan.specs.Answer.{unless, first, Answer, answered, andThen, filled}
+use Rattle.plan.specs.Answer.{first, Answer, answered, andThen, filled}
 use Rattle.plan.specs.Plan.{zeroLetter, zeroConstraint, signed, listed, networkOf}
-use Rattle.plan.specs.Judge.{headFine, takenBefore, letterFine, letterUnused, letterEntry, lettersFine, boundFine, constraintFine, constraintUnused, constraintEntry, constraintsFine, planFault}
 
 -- disclosing point, kind
 abbrev pub letter : ℕ → ℕ → Letter
@@ -79,56 +76,6 @@ pub trees :
     × (preorder (networkOf exchanged) (firstTree (networkOf exchanged)) ≡ move 0 2 0 ∷ (move 2 1 0 ∷ (move 1 1 0 ∷ [])))
 unfolding bit mask count allBelow anyBelow firstBelow joinBelow submask holds projected atMost feasible keeps start after over winsBy winsWith winsIn winnable firstMove firstTreeFrom preorder signed listed
 trees = (refl, refl, refl, refl)
-
--- ---- fine: both ends of each range
-
-pub fine :
-    (planFault k4 ≡ 0) × (planFault (plan 0 1 [] []) ≡ 0) × (planFault (plan 63 8 [] []) ≡ 0)
-    × (planFault (plan 0 1 (letter 0 0 ∷ []) []) ≡ 0)
-    × (planFault (plan 0 6 (letter 5 0 ∷ (letter 4 1 ∷ (letter 3 0 ∷ (letter 2 1 ∷ (letter 1 0 ∷ (letter 0 1 ∷ [])))))) []) ≡ 0)
-    × (planFault (plan 0 1 [] (replicate 64 (constraint 0 0 999 0 0))) ≡ 0)
-    × (planFault (plan 0 1 [] (constraint 0 0 64537 0 0 ∷ [])) ≡ 0)
-    × (planFault (plan 0 2 (letter 0 0 ∷ (letter 1 0 ∷ [])) (constraint 1 1 0 3 3 ∷ [])) ≡ 0)
-unfolding bit allBelow anyBelow headFine takenBefore letterFine letterUnused letterEntry lettersFine boundFine constraintFine constraintUnused constraintEntry constraintsFine planFault first unless
-fine = (refl, refl, refl, refl, refl, refl, refl, refl)
-
--- ---- the head: just outside each range; before any fault of an entry
-
-pub heads :
-    (planFault (plan 64 1 [] []) ≡ refusalNumber refusal.Head) × (planFault (plan 0 0 [] []) ≡ refusalNumber refusal.Head)
-    × (planFault (plan 0 9 [] []) ≡ refusalNumber refusal.Head)
-    × (planFault (record-of 0 8 7 0 [] []) ≡ refusalNumber refusal.Head)
-    × (planFault (plan 0 1 (letter 0 0 ∷ (letter 0 0 ∷ [])) []) ≡ refusalNumber refusal.Head)
-    × (planFault (record-of 0 1 0 65 [] []) ≡ refusalNumber refusal.Head)
-    × (planFault (plan 64 1 (letter 9 9 ∷ []) (constraint 9 9 1000 0 0 ∷ [])) ≡ refusalNumber refusal.Head)
-unfolding headFine planFault first unless
-heads = (refl, refl, refl, refl, refl, refl, refl)
-
--- ---- the letters: point, kind, a point taken, an unused entry; before any fault of a constraint
-
-pub letters :
-    (planFault (plan 0 1 (letter 1 0 ∷ []) []) ≡ refusalNumber refusal.Letters)
-    × (planFault (plan 0 1 (letter 0 2 ∷ []) []) ≡ refusalNumber refusal.Letters)
-    × (planFault (plan 0 3 (letter 2 0 ∷ (letter 1 0 ∷ (letter 2 1 ∷ []))) []) ≡ refusalNumber refusal.Letters)
-    × (planFault (record-of 0 2 0 0 (letter 1 0 ∷ []) []) ≡ refusalNumber refusal.Letters)
-    × (planFault (record-of 0 1 0 0 (replicate 5 zeroLetter ++ (letter 0 1 ∷ [])) []) ≡ refusalNumber refusal.Letters)
-    × (planFault (plan 0 1 (letter 0 2 ∷ []) (constraint 9 9 1000 0 0 ∷ [])) ≡ refusalNumber refusal.Letters)
-unfolding allBelow anyBelow headFine takenBefore letterFine letterUnused letterEntry lettersFine planFault first unless
-letters = (refl, refl, refl, refl, refl, refl)
-
--- ---- the constraints: points, bound, masks, an unused entry
-
-pub constraints :
-    (planFault (plan 0 1 [] (constraint 1 0 0 0 0 ∷ [])) ≡ refusalNumber refusal.Constraints)
-    × (planFault (plan 0 1 [] (constraint 0 1 0 0 0 ∷ [])) ≡ refusalNumber refusal.Constraints)
-    × (planFault (plan 0 1 [] (constraint 0 0 1000 0 0 ∷ [])) ≡ refusalNumber refusal.Constraints)
-    × (planFault (plan 0 1 [] (constraint 0 0 64536 0 0 ∷ [])) ≡ refusalNumber refusal.Constraints)
-    × (planFault (plan 0 1 (letter 0 0 ∷ []) (constraint 0 0 0 2 0 ∷ [])) ≡ refusalNumber refusal.Constraints)
-    × (planFault (plan 0 2 (letter 0 0 ∷ (letter 1 0 ∷ [])) (constraint 0 0 0 1 2 ∷ [])) ≡ refusalNumber refusal.Constraints)
-    × (planFault (record-of 0 2 0 0 [] (constraint 0 1 0 0 0 ∷ [])) ≡ refusalNumber refusal.Constraints)
-    × (planFault (record-of 0 1 0 63 [] (replicate 63 zeroConstraint ++ (constraint 0 0 1 0 0 ∷ []))) ≡ refusalNumber refusal.Constraints)
-unfolding bit allBelow anyBelow headFine takenBefore letterFine letterUnused letterEntry lettersFine boundFine constraintFine constraintUnused constraintEntry constraintsFine planFault first unless
-constraints = (refl, refl, refl, refl, refl, refl, refl, refl)
 
 -- ---- answers and lent buffers
 

@@ -1,25 +1,13 @@
 -- Theorems on well-formed plans: the network of one meets every premise of the theorems on networks. Read the statements; only the checker
 -- need believe the proofs.
-use mathlib.Core.Path.{_≡_, sym, ap, _∙_}
-use mathlib.Core.Logic.{_↔_}
 use Prim.Native.Nat.{_≤_}
 use Rattle.network.specs.Network.{IsNetwork}
 use Rattle.network.specs.Tree.{Tree, Shaped, nodes}
 use Rattle.network.proofs.Theorems as theorems
 use Rattle.plan.specs.declared.Plan.{Plan}
-use Rattle.plan.specs.declared.Judged.{Judged}
-use Rattle.plan.specs.declared.Judged.the-variants as judged
-use Rattle.plan.specs.Refusal.{judgedNumber}
-use Rattle.plan.specs.Judge.{planFault}
 use Rattle.plan.specs.Plan.{networkOf}
 use Rattle.plan.specs.WellFormed.{WellFormed}
-use Rattle.plan.proofs.WellFormedLaws.{fine-exactly, network-of-well-formed}
-use Rattle.plan.proofs.RefusalLaws.{fine-is}
-
--- a plan is well formed exactly where the judge, by what it promises, says fine
-pub judged-fine-exactly : (p : Plan) (r : Judged) → judgedNumber r ≡ planFault p → (r ≡ judged.Fine) ↔ WellFormed p
-judged-fine-exactly p r e =
-    (λ f. fine-exactly p .0 (sym e ∙ ap judgedNumber f), λ wf. fine-is r (e ∙ fine-exactly p .1 wf))
+use Rattle.plan.proofs.PlanLaws.{network-of-well-formed}
 
 module _ (p : Plan) (wf : WellFormed p) where
   -- the premise of theorems 1 to 6

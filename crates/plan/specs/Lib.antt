@@ -3,7 +3,4 @@ pub mod Refusal
 pub mod Answer
 pub mod Plan
 pub mod WellFormed
-pub mod Masks
 pub mod Letters
-pub mod Constraints
-pub mod Judge

@@ -1,22 +1,11 @@
 // The letters of a plan as masks: its conditions, its decisions, those that some points disclose.
-use crate::Letter;
 use crate::Plan;
-use crate::mask;
+use crate::entries;
 ghost use mathlib.Core.Path.{_≡_};
 ghost use Rattle.network.specs.Mask.{digit, mask};
 ghost use Rattle.network.specs.Network.{condition, decision};
-ghost use Rattle.plan.specs.Plan.{letterAt, networkOf};
+ghost use Rattle.plan.specs.Plan.{networkOf};
 ghost use Rattle.plan.specs.Letters.{ofKind, disclosedBy, heardBy, settledBy};
-
-// Letter i; the zero letter past the array.
-pub fn letter_at(plan: Plan, i: u8) -> Letter
-    ensures { λ r. ⌜ r ≡ letterAt plan i ⌝ }
-{
-    if 6 <= i {
-        return Letter { point: 0, kind: 0 };
-    }
-    plan.letter[i as usize]
-}
 
 fn one_if(b: bool) -> u8
     ensures { λ r. ⌜ r ≡ digit b ⌝ }
@@ -31,7 +20,7 @@ fn is_of_kind(plan: Plan, decided: bool, i: u8) -> bool
     if plan.letters <= i {
         return false;
     }
-    let l = letter_at(plan, i);
+    let l = entries::letter_at(plan, i);
     if l.kind == 1 {
         return decided;
     }
@@ -59,8 +48,8 @@ fn disclosed(plan: Plan, points: u8) -> u8
     let mut i: u8 = 6;
     while 0 < i {
         i = i - 1;
-        let l = letter_at(plan, i);
-        m = one_if(mask::has(points, l.point)) + 2 * m;
+        let l = entries::letter_at(plan, i);
+        m = one_if(masks::has(points, l.point)) + 2 * m;
     }
     m
 }

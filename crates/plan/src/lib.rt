@@ -1,9 +1,7 @@
-// The plan record, the refusals, the judge of a record, masks and letters, the label test and what it is to keep a constraint.
+// The plan record, its entries, its letters as masks, and the refusals.
 pub mod bytes;
-pub mod constraints;
-pub mod judge;
+pub mod entries;
 pub mod letters;
-pub mod mask;
 
 ghost use mathlib.Core.Path.{_≡_};
 ghost use Rattle.plan.specs.Plan.{zeroPlan};

@@ -9,7 +9,7 @@ use Rattle.network.specs.Mask.{allBelow, anyBelow, joinBelow}
 use Rattle.plan.specs.declared.Plan.{Plan}
 use Rattle.plan.specs.Answer.{unless, first, fine, answered, andThen}
 use Rattle.plan.specs.Plan.{zeroLetter, zeroConstraint, zeroPlan}
-use Rattle.plan.specs.Judge.{headFine, takenBefore, letterFine, letterUnused, letterEntry, lettersFine, boundFine, constraintFine, constraintUnused, constraintEntry, constraintsFine, planFault}
+use Rattle.judge.specs.Judge.{headFine, takenBefore, letterFine, letterUnused, letterEntry, lettersFine, boundFine, constraintFine, constraintUnused, constraintEntry, constraintsFine, planFault}
 use Rattle.frame.specs.Hex.{digitOf, pairOf, hexDigit}
 use Rattle.frame.specs.Frame.{byteAt, whole}
 use Rattle.frame.specs.Texts.{frameFault, framesFrom, atEnd}

@@ -16,9 +16,9 @@ use Rattle.plan.specs.declared.Constraint.{Constraint}
 use Rattle.plan.specs.declared.Plan.{Plan}
 use Rattle.plan.specs.Plan.{zeroLetter, zeroConstraint, letterAt, constraintAt}
 use Rattle.plan.specs.WellFormed.{WellFormed}
-use Rattle.plan.specs.Judge.{takenBefore, letterFine, letterUnused, letterEntry, lettersFine, constraintFine, constraintUnused, constraintEntry, constraintsFine}
-use Rattle.plan.proofs.JudgeLaws.{headOf, no-fault}
-use Rattle.plan.proofs.WellFormedLaws.{fine-exactly, no-fault-is}
+use Rattle.judge.specs.Judge.{takenBefore, letterFine, letterUnused, letterEntry, lettersFine, constraintFine, constraintUnused, constraintEntry, constraintsFine}
+use Rattle.judge.proofs.JudgeLaws.{headOf, no-fault}
+use Rattle.judge.proofs.WellFormedLaws.{fine-exactly, no-fault-is}
 use Rattle.plan_text.proofs.FilledLaws.{SameBelow, UnusedFrom}
 
 -- ---- a plan with other entries

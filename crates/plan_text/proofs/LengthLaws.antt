@@ -9,8 +9,8 @@ use Rattle.plan.specs.declared.Plan.{Plan}
 use Rattle.plan.specs.Answer.{unless, first}
 use Rattle.plan.specs.Plan.{zeroConstraint, letterAt, constraintAt, listed}
 use Rattle.plan.specs.WellFormed.{WellFormed}
-use Rattle.plan.specs.Judge.{headFine, takenBefore, letterFine, letterEntry, lettersFine, boundFine, constraintFine, constraintEntry, constraintsFine, planFault}
-use Rattle.plan.proofs.WellFormedLaws.{fine-exactly}
+use Rattle.judge.specs.Judge.{headFine, takenBefore, letterFine, letterEntry, lettersFine, boundFine, constraintFine, constraintEntry, constraintsFine, planFault}
+use Rattle.judge.proofs.WellFormedLaws.{fine-exactly}
 use Rattle.plan_text.specs.PlanText.{headText, letterText, constraintText, lettersText, constraintsText, planText}
 
 -- 11 characters of the head, 9 of each letter, 15 of each constraint

@@ -14,9 +14,9 @@ use Rattle.plan.specs.declared.Refusal.the-variants as refusal
 use Rattle.plan.specs.Answer.{Answer, fine}
 use Rattle.plan.specs.Plan.{zeroLetter, zeroConstraint, zeroPlan, listed}
 use Rattle.plan.specs.WellFormed.{WellFormed}
-use Rattle.plan.specs.Judge.{letterFine, constraintFine}
-use Rattle.plan.proofs.JudgeLaws.{headOf}
-use Rattle.plan.proofs.WellFormedLaws.{says-head}
+use Rattle.judge.specs.Judge.{letterFine, constraintFine}
+use Rattle.judge.proofs.JudgeLaws.{headOf}
+use Rattle.judge.proofs.WellFormedLaws.{says-head}
 use Rattle.frame.specs.Frame.{frameLength, valueAt, whole}
 use Rattle.frame.specs.Texts.{atEnd}
 use Rattle.frame.proofs.FrameLaws.{whole-said}

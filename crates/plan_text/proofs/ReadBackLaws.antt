@@ -16,8 +16,8 @@ use Rattle.plan.specs.declared.Refusal.the-variants as refusal
 use Rattle.plan.specs.Answer.{Answer, fine, andThen}
 use Rattle.plan.specs.Plan.{zeroLetter, zeroConstraint, zeroPlan, letterAt, constraintAt}
 use Rattle.plan.specs.WellFormed.{WellFormed, FineConstraint}
-use Rattle.plan.specs.Judge.{letterFine, constraintFine}
-use Rattle.plan.proofs.JudgeLaws.{headOf}
+use Rattle.judge.specs.Judge.{letterFine, constraintFine}
+use Rattle.judge.proofs.JudgeLaws.{headOf}
 use Rattle.frame.specs.Frame.{valueAt}
 use Rattle.frame.specs.Texts.{atEnd}
 use Rattle.frame.proofs.FrameLaws.{EachByte, bytes, value-back, whole-back}

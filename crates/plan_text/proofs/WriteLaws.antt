@@ -11,7 +11,7 @@ use Rattle.plan.specs.declared.Refusal.{Refusal}
 use Rattle.plan.specs.declared.Refusal.the-variants as refusal
 use Rattle.plan.specs.Refusal.{refusalNumber}
 use Rattle.plan.specs.Plan.{letterAt, constraintAt}
-use Rattle.plan.specs.Judge.{planFault}
+use Rattle.judge.specs.Judge.{planFault}
 use Rattle.frame.specs.declared.Written.{Written}
 use Rattle.frame.specs.declared.Written.the-variants as written
 use Rattle.frame.specs.Texts.{writtenAnswer}

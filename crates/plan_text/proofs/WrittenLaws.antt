@@ -7,7 +7,7 @@ use Rattle.network.proofs.Booleans.{leb-yes}
 use Rattle.plan.specs.declared.Plan.{Plan}
 use Rattle.plan.specs.Answer.{unless, first, fine, answered}
 use Rattle.plan.specs.WellFormed.{WellFormed}
-use Rattle.plan.proofs.WellFormedLaws.{fine-exactly}
+use Rattle.judge.proofs.WellFormedLaws.{fine-exactly}
 use Rattle.plan_text.specs.PlanText.{planText, writePlan}
 
 -- with room for its text a well-formed plan is written

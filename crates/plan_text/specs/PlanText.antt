@@ -8,7 +8,7 @@ use Rattle.plan.specs.declared.Constraint.{Constraint}
 use Rattle.plan.specs.declared.Plan.{Plan}
 use Rattle.plan.specs.Answer.{first, Answer, answered, filled}
 use Rattle.plan.specs.Plan.{letterAt, constraintAt}
-use Rattle.plan.specs.Judge.{planFault}
+use Rattle.judge.specs.Judge.{planFault}
 use Rattle.frame.specs.Frame.{frameText}
 use Rattle.frame.specs.Texts.{roomFault}
 

@@ -12,7 +12,7 @@ use Rattle.plan.specs.declared.Refusal.the-variants as refusal
 use Rattle.plan.specs.Refusal.{judgedNumber}
 use Rattle.plan.specs.Answer.{Answer, answered, andThen}
 use Rattle.plan.specs.Plan.{zeroPlan}
-use Rattle.plan.specs.Judge.{headFine, letterFine, constraintFine}
+use Rattle.judge.specs.Judge.{headFine, letterFine, constraintFine}
 use Rattle.frame.specs.Frame.{frameLength, valueAt, whole}
 use Rattle.frame.specs.Texts.{frameFault, framesFrom, atEnd}
 use Rattle.plan_text.specs.declared.PlanRead.{PlanRead}

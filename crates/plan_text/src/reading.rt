@@ -5,7 +5,6 @@ use frame::reading;
 use plan::Judged;
 use plan::Plan;
 use plan::Refusal;
-use plan::judge;
 ghost use mathlib.Core.Path.{_≡_};
 ghost use Rattle.plan.specs.declared.Refusal.the-variants as refusal;
 ghost use Rattle.plan.specs.Refusal.{judgedNumber};

@@ -6,9 +6,7 @@ use plan::Judged;
 use plan::Letter;
 use plan::Plan;
 use plan::Refusal;
-use plan::constraints;
-use plan::judge;
-use plan::letters;
+use plan::entries;
 ghost use mathlib.Core.Path.{_≡_};
 ghost use Prim.Native.Nat.{_+_, _*_, _≤_};
 ghost use lib.ListN.{length};
@@ -46,7 +44,7 @@ fn put_letters(out: &mut [u8], from: usize, p: Plan)
     let mut at = from;
     let mut i: u8 = 0;
     while i < p.letters {
-        put_letter(out, at, i, letters::letter_at(p, i));
+        put_letter(out, at, i, entries::letter_at(p, i));
         at += 9;
         i += 1;
     }
@@ -59,7 +57,7 @@ fn put_constraints(out: &mut [u8], from: usize, p: Plan)
     let mut at = from;
     let mut j: u8 = 0;
     while j < p.constraints {
-        put_constraint(out, at, constraints::constraint_at(p, j));
+        put_constraint(out, at, entries::constraint_at(p, j));
         at += 15;
         j += 1;
     }

@@ -16,12 +16,12 @@ use Rattle.checker.proofs.CodeLaws.{next, below, AtNode, at-node, path-
 use Rattle.checker.proofs.subtree.Reads as subtree
 use Rattle.checker.proofs.subtree.Kinds as kinds
 use Rattle.checker.proofs.+subtree.Lts-subtree as subtree-lts
+use Rattle.constraints.proofs.all_kept.Reads as all-kept-reads
 use Rattle.game.proofs.after.Reads as after-reads
 use Rattle.game.proofs.legal.Reads as legal-reads
-use Rattle.plan.proofs.constraints.all_kept.Reads as all-kept-reads
+use Rattle.masks.proofs.numbered.Reads as numbered-reads
+use Rattle.masks.proofs.submasks.Reads as submasks-reads
 use Rattle.plan.proofs.letters.heard.Reads as heard-reads
-use Rattle.plan.proofs.mask.numbered.Reads as numbered-reads
-use Rattle.plan.proofs.mask.submasks.Reads as submasks-reads
 use Rattle.tree.proofs.node_at.Reads as node-at-reads
 use Rattle.checker.proofs.+subtree.{statement}
 use Rattle.checker.proofs.+subtree.Tie.{close}

@@ -5,9 +5,9 @@ use borrow.Author.Needs.{needs}
 use Rattle.network.specs.Game.{State}
 use Rattle.network.proofs.Booleans.{denied, granted, not-true, not-false}
 use Rattle.plan.specs.Refusal.{judgedNumber}
-use Rattle.plan.specs.Judge.{planFault}
 use Rattle.plan.specs.WellFormed.{WellFormed}
-use Rattle.plan.proofs.WellFormedLaws.{fine-exactly}
+use Rattle.judge.specs.Judge.{planFault}
+use Rattle.judge.proofs.WellFormedLaws.{fine-exactly}
 use Rattle.tree.specs.Nodes.{nodeCount}
 use Rattle.game.specs.Position.{stateOf}
 use Rattle.game.proofs.PositionLaws.{start-is, start-proper}

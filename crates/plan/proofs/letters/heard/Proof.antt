@@ -2,8 +2,8 @@
 use borrow.Author.Needs.{needs}
 use Rattle.network.specs.Mask.{bit}
 use Rattle.network.specs.Network.{condition}
-use Rattle.plan.specs.Plan.{networkOf}
 use Rattle.network.proofs.MachineLaws.{and-masks}
+use Rattle.plan.specs.Plan.{networkOf}
 use Rattle.plan.proofs.letters.heard.Statement.{statement}
 use Rattle.plan.proofs.letters.heard.Tie as tie
 

@@ -3,7 +3,7 @@ use denote.Ref.{now}
 use mathlib.Core.Path.{_≡_, sym, ap, _∙_}
 use borrow.Author.Needs.{needs}
 use Rattle.plan.specs.Refusal.{judgedNumber}
-use Rattle.plan.specs.Judge.{planFault}
+use Rattle.judge.specs.Judge.{planFault}
 use Rattle.plan_text.proofs.WriteLaws.{plan-refused, plan-short, plan-written}
 use Rattle.plan_text.proofs.writing.write_plan.Statement.{statement}
 use Rattle.plan_text.proofs.writing.write_plan.Tie as tie

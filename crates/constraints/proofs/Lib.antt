@@ -1,0 +1,2 @@
+-- Laws: the modules of this folder. Only the checker need believe them.
+pub mod ConstraintLaws
