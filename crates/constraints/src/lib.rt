@@ -1,4 +1,6 @@
-// The label test, and what it is to keep a constraint.
+// The label test, what it is to keep a constraint, and the raise. No other code knows what a constraint is.
+pub mod raising;
+
 use plan::Constraint;
 use plan::Plan;
 use plan::entries;

@@ -64,6 +64,9 @@ leb-yes a b h = untest (leb a b) (le→leb a b h)
 pub leb-is : (a b : ℕ) → leb a b ≡ true → a ≤ b
 leb-is a b e = leb→le a b (test e)
 
+pub leb-no : (a b : ℕ) → ¬ (a ≤ b) → leb a b ≡ false
+leb-no a b n = by-test (leb a b) (λ y. absurd (n (leb-is a b y))) (λ z. z)
+
 pub ltb-yes : (a b : ℕ) → a < b → ltb a b ≡ true
 ltb-yes a b h = untest (ltb a b) (lt→ltb a b h)
 

@@ -6,6 +6,7 @@ pub mod MaskLaws
 pub mod SubmaskLaws
 pub mod MachineLaws
 pub mod NetworkLaws
+pub mod RaiseLaws
 pub mod GameLaws
 pub mod PathLaws
 pub mod TreeStrategy

@@ -1,0 +1,50 @@
+-- Laws of what the code of the raise computes: the slot that a bound asks, one slot no earlier, turns taken from the front. Only the checker
+-- need believe this file.
+use mathlib.Core.Path.{_≡_, refl, sym, ap, _∙_}
+use mathlib.Core.List.{List}
+use Prim.Native.Nat.{ℕ, zero, suc, _+_, _-_, _≤_, _<_, max}
+use native.Mathlib.Omega.{arith}
+use native.Mathlib.Numerals.{add-one}
+use lib.ListN.{length, getD, set}
+use lib.Seq.{set-out, set-getD}
+use Rattle.network.specs.Network.{Scenario, Constraint}
+use Rattle.network.specs.Raise.{leastFrom, turn, turns}
+use Rattle.network.proofs.Booleans.{ltb-yes, ltb-no}
+use Rattle.plan.specs.Plan.{signed, listed}
+
+-- ---- a bound in two's complement
+
+pub least-pos : (y b : ℕ) → b < 32768 → leastFrom y (signed b) ≡ y - b
+unfolding leastFrom signed
+least-pos y b h = rw (ltb-yes b 32768 h)
+
+pub least-neg : (y b : ℕ) → 32768 ≤ b → b < 65536 → leastFrom y (signed b) ≡ y + 65536 - b
+unfolding leastFrom signed
+least-neg y b h k = rw (ltb-no b 32768 (λ lt. omega arith)) (omega arith)
+
+-- ---- a slot no earlier than v
+
+pub later : (slots : List ℕ) (x v : ℕ) → getD slots x 0 < v → set slots x v ≡ set slots x (max (getD slots x 0) v)
+later slots x v h = ap (set slots x) (omega arith)
+
+pub late-enough : (slots : List ℕ) (x v : ℕ) → v ≤ getD slots x 0 → slots ≡ set slots x (max (getD slots x 0) v)
+late-enough slots x v h =
+    let e : max (getD slots x 0) v ≡ getD slots x 0 = omega arith in
+    sym (ap (set slots x) e ∙ set-getD slots x 0)
+
+pub past : (slots : List ℕ) (x v : ℕ) → length slots ≤ x → slots ≡ set slots x v
+past slots x v h = sym (set-out slots x v h)
+
+-- ---- turns from the front
+
+one-more :
+    (cap : ℕ) (s : Scenario) (slots : List ℕ) (j : ℕ) (at : ℕ → Constraint) →
+    turns cap s slots (listed (suc j) at) ≡ turn cap s (turns cap s slots (listed j at)) (at j)
+unfolding turns listed
+one-more cap s slots zero at = refl
+one-more cap s slots (suc j) at = one-more cap s (turn cap s slots (at zero)) j (λ i. at (suc i))
+
+pub turns-next :
+    (cap : ℕ) (s : Scenario) (slots : List ℕ) (j : ℕ) (at : ℕ → Constraint) →
+    turns cap s slots (listed (j + 1) at) ≡ turn cap s (turns cap s slots (listed j at)) (at j)
+turns-next cap s slots j at = ap (λ (n : ℕ). turns cap s slots (listed n at)) (add-one j) ∙ one-more cap s slots j at

@@ -1,0 +1,67 @@
+-- `raise`: the slots are as after the turns of the constraints passed. Only the checker need believe this file.
+use mathlib.Core.Path.{_≡_, refl, sym, ap, _∙_}
+use mathlib.Core.List.{List}
+use Prim.Native.Nat.{ℕ, _-_, _≤_}
+use native.Mathlib.Omega.{arith}
+use borrow.Author.Needs.{needs}
+use Rattle.network.specs.Mask.{bit}
+use Rattle.network.specs.Network.{Constraint}
+use Rattle.network.specs.Raise.{turns}
+use Rattle.plan.specs.declared.Plan.{Plan}
+use Rattle.plan.specs.Plan.{constraintAt, constraintOf, listed}
+use Rattle.constraints.proofs.RaisingLaws.{turns-next}
+use Rattle.constraints.proofs.raising.raise.Statement.{statement}
+use Rattle.constraints.proofs.raising.raise.Tie as tie
+
+-- after the turns of the first j constraints
+abbrev after : Plan → ℕ → ℕ → List ℕ → ℕ → List ℕ
+after plan values cap slots j = turns cap (bit values) slots (listed j (λ i. constraintOf (constraintAt plan i)))
+
+abbrev Inv-loop : tie.InvT-loop
+Inv-loop plan values cap count moved₀ k₀ moved k = (k ≤ count) × (moved ≡ after plan values cap moved₀ k)
+
+abbrev μ-loop : tie.MeasureT-loop
+μ-loop plan values cap count moved₀ k₀ moved k = count - k
+
+loop-holds : tie.Need-loop-holds Inv-loop μ-loop
+unfolding turns listed
+loop-holds c = (omega arith, refl)
+
+constraint-at-requires : tie.Need-constraint-at-requires Inv-loop μ-loop
+constraint-at-requires c κs = search needs
+
+take-turn-requires : tie.Need-take-turn-requires Inv-loop μ-loop
+take-turn-requires c κs = search needs
+
+add-k : tie.Need-add-k Inv-loop μ-loop
+add-k c = record { fits = omega arith }
+
+loop-less : tie.Need-loop-less Inv-loop μ-loop
+loop-less c = omega arith
+
+loop-again : tie.Need-loop-again Inv-loop μ-loop
+loop-again c =
+    let a = c .before .before .before .before .args in (
+      omega arith,
+      c .take-turn .ensures ∙ rw (c .before .constraint-at .ensures, c .before .before .before .loop .inv .1) (sym (turns-next (a .cap) (bit (a .values)) _ (c .before .before .before .loop .k) (λ i. constraintOf (constraintAt (a .plan) i)))),
+    )
+
+returns : tie.Need-returns Inv-loop μ-loop
+returns c =
+    let a = c .before .before .args in
+    let e : c .before .loop .k ≡ a .plan .constraints = omega arith in
+    c .before .loop .inv .1 ∙ ap (after (a .plan) (a .values) (a .cap) _) e
+
+pub raise-spec : {M : Type 1} → statement M
+raise-spec =
+    tie.close
+    (tie.spec
+    Inv-loop
+    μ-loop
+    loop-holds
+    constraint-at-requires
+    take-turn-requires
+    add-k
+    loop-less
+    loop-again
+    returns)

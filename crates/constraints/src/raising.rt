@@ -1,0 +1,84 @@
+// The raise: points are moved to the slots that their constraints ask.
+use plan::Constraint;
+use plan::Plan;
+use plan::entries;
+ghost use mathlib.Core.Path.{_≡_};
+ghost use Prim.Native.Nat.{min, max};
+ghost use lib.ListN.{getD, set};
+ghost use Rattle.network.specs.Mask.{bit};
+ghost use Rattle.network.specs.Network.{slotsIn};
+ghost use Rattle.network.specs.Raise.{leastFrom, asked, turn, raised};
+ghost use Rattle.plan.specs.Plan.{signed, constraintOf, networkOf};
+
+// The least slot x with y - x at most the bound, which is in two's complement; 0 where that would be less.
+fn least_from(y: u8, bound: u16) -> u32
+    ensures { λ r. ⌜ r ≡ leastFrom y (signed bound) ⌝ }
+{
+    let d = bound as u32;
+    let t = y as u32;
+    if 32768 <= d {
+        return t + 65536 - d;
+    }
+    if t < d {
+        return 0;
+    }
+    t - d
+}
+
+// The earliest slot that the constraint leaves its X; 0 where its label does not hold.
+fn asked_slot(c: Constraint, slots: [u8; 8], values: u8) -> u32
+    ensures { λ r. ⌜ r ≡ asked (bit values) (slotsIn slots) (constraintOf c) ⌝ }
+{
+    if !crate::label_holds(c, values) {
+        return 0;
+    }
+    least_from(crate::slot_of(slots, c.to), c.bound)
+}
+
+fn at_most_cap(cap: u8, v: u32) -> u8
+    ensures { λ r. ⌜ r ≡ min cap v ⌝ }
+{
+    if v < cap as u32 {
+        return v as u8;
+    }
+    cap
+}
+
+// The slots with point x no earlier than slot v. Past the array nothing changes.
+fn no_earlier(slots: [u8; 8], x: u8, v: u8) -> [u8; 8]
+    ensures { λ r. ⌜ r ≡ set slots x (max (getD slots x 0) v) ⌝ }
+{
+    let mut out = slots;
+    if x < 8 {
+        if slots[x as usize] < v {
+            out[x as usize] = v;
+        }
+    }
+    out
+}
+
+// One constraint's turn: its X is moved to the slot that it asks if it stands earlier, and to the cap at most.
+fn take_turn(c: Constraint, slots: [u8; 8], values: u8, cap: u8) -> [u8; 8]
+    ensures { λ r. ⌜ r ≡ turn cap (bit values) slots (constraintOf c) ⌝ }
+{
+    no_earlier(
+        slots,
+        c.from,
+        at_most_cap(cap, asked_slot(c, slots, values)),
+    )
+}
+
+// One round of the raise: each constraint takes its turn.
+pub fn raise(plan: Plan, slots: [u8; 8], values: u8, cap: u8) -> [u8; 8]
+    ensures { λ r. ⌜ r ≡ raised cap (networkOf plan) (bit values) slots ⌝ }
+{
+    let count = plan.constraints;
+    let mut moved = slots;
+    let mut k: u8 = 0;
+    while k < count {
+        let next = take_turn(entries::constraint_at(plan, k), moved, values, cap);
+        moved = next;
+        k += 1;
+    }
+    moved
+}

@@ -1,0 +1,191 @@
+-- Laws of the climb from all zeros: it rests before long, and where it rests within the horizon it is the least schedule. Only the checker
+-- need believe this file.
+use mathlib.Core.Path.{_≡_, refl, sym, ap, _∙_}
+use mathlib.Core.Logic.{_↔_, _⊎_, inl, inr, ⊎-elim, by-cases}
+use mathlib.Core.Bool.{true, false}
+use mathlib.Core.List.{List}
+use Prim.Native.Nat.{ℕ, zero, suc, _+_, _-_, _*_, _≤_, _<_}
+use native.Mathlib.Omega.{arith}
+use native.Mathlib.Nat.{le-trans, zero-add, suc-add}
+use native.Mathlib.Decide.{decLt}
+use lib.Dec.{leb}
+use lib.ListN.{length, replicate, getD-replicate, List·getD-eq-default}
+use Rattle.network.specs.Network.{Network, Scenario, Schedule, slotsIn, keeps, IsNetwork}
+use Rattle.network.specs.Fixed.{ScheduleFor, Least, Schedulable}
+use Rattle.network.specs.Raise.{raised}
+use Rattle.network.proofs.Booleans.{by-test, clash, leb-yes, leb-is}
+use Rattle.network.proofs.BelowLaws.{all-at, all-make}
+use Rattle.network.proofs.RaiseLaws.{raised-length, raised-above, raised-capped, raised-unused, raised-below, raised-still}
+use Rattle.verdict.specs.Verdict.{climbed, leastSlots, withinHorizon, Fixed, none, fixed, verdictOf}
+use Rattle.verdict.proofs.TotalLaws.{total, total-same, total-top}
+
+module _ (cap : ℕ) (net : Network) (s : Scenario) where
+  -- ---- rounds
+
+  -- some rounds, and then more
+  pub climbed-split :
+      (k n : ℕ) (slots : List ℕ) → climbed (k + n) cap net s slots ≡ climbed n cap net s (climbed k cap net s slots)
+  unfolding climbed
+  climbed-split zero n slots = rw zero-add
+  climbed-split (suc k) n slots = rw suc-add (climbed-split k n (raised cap net s slots))
+
+  -- one more
+  pub climbed-next : (k : ℕ) (slots : List ℕ) → climbed (suc k) cap net s slots ≡ raised cap net s (climbed k cap net s slots)
+  unfolding climbed
+  climbed-next zero slots = refl
+  climbed-next (suc k) slots = climbed-next k (raised cap net s slots)
+
+  -- none that changes anything
+  pub climbed-rests : (n : ℕ) (slots : List ℕ) → raised cap net s slots ≡ slots → climbed n cap net s slots ≡ slots
+  unfolding climbed
+  climbed-rests zero slots e = refl
+  climbed-rests (suc n) slots e = rw e (climbed-rests n slots e)
+
+  -- what each round keeps
+  climbed-keeps :
+      (P : List ℕ → Type 0) → ((slots : List ℕ) → P slots → P (raised cap net s slots)) → (n : ℕ) (slots : List ℕ) → P slots →
+      P (climbed n cap net s slots)
+  unfolding climbed
+  climbed-keeps P step zero slots h = h
+  climbed-keeps P step (suc n) slots h = climbed-keeps P step n (raised cap net s slots) (step slots h)
+
+  -- ---- a round that changes something raises the total
+
+  rests-or-rises : (slots : List ℕ) → (raised cap net s slots ≡ slots) ⊎ (total slots < total (raised cap net s slots))
+  rests-or-rises slots =
+      by-cases (decLt (total slots) (total (raised cap net s slots)))
+      inr
+      (λ ge. inl (sym (total-same slots (raised cap net s slots) (sym (raised-length cap net s slots)) (raised-above cap net s slots)
+      (omega arith))))
+
+  pub rises : (slots : List ℕ) → (raised cap net s slots ≡ slots → ⊥) → total slots < total (raised cap net s slots)
+  rises slots n = ⊎-elim (λ e. absurd (n e)) (λ lt. lt) (rests-or-rises slots)
+
+  -- ---- from all zeros
+
+  -- it rests, or each of n rounds raised the total
+  rests-or-high :
+      (n : ℕ) → let now : List ℕ = climbed n cap net s (replicate 8 0) in (raised cap net s now ≡ now) ⊎ (n ≤ total now)
+  rests-or-high zero = inr (omega arith)
+  rests-or-high (suc n) =
+      let now : List ℕ = climbed n cap net s (replicate 8 0) in
+      rw (climbed-next n (replicate 8 0)) (⊎-elim
+      (λ e. inl (ap (raised cap net s) e))
+      (λ high. ⊎-elim (λ e. inl (ap (raised cap net s) e)) (λ lt. inr (omega arith)) (rests-or-rises now))
+      (rests-or-high n))
+
+  -- Where it rests it is the least fixpoint.
+  pub rests-at :
+      (k : ℕ) (slots : List ℕ) → k ≤ total slots → total slots ≤ 8 * cap → slots ≡ climbed k cap net s (replicate 8 0) →
+      raised cap net s slots ≡ slots → slots ≡ leastSlots cap net s
+  unfolding leastSlots
+  rests-at k slots low high way e =
+      let rounds : 8 * cap ≡ k + (8 * cap - k) = omega arith in
+      rw (rounds, climbed-split k (8 * cap - k) (replicate 8 0), ← way) (sym (climbed-rests (8 * cap - k) slots e))
+
+-- ---- what holds on the way
+
+zeros-at : (x : ℕ) → slotsIn (replicate 8 0) x ≡ 0
+zeros-at x =
+    by-cases (decLt x 8) (getD-replicate 8 x 0 0) (λ ge. List·getD-eq-default (replicate 8 0) 0 {n = x} (omega arith))
+
+record OnTheWay (cap : ℕ) (net : Network) (s : Scenario) (slots : List ℕ) : Type 0 where
+  long : length slots ≡ 8
+  capped : (x : ℕ) → slotsIn slots x ≤ cap
+  unused : (x : ℕ) → net .points ≤ x → slotsIn slots x ≡ 0
+  below : (φ : Schedule) → keeps net φ s ≡ true → (x : ℕ) → x < net .points → slotsIn slots x ≤ φ x
+
+least-on-the-way : (cap : ℕ) (net : Network) (s : Scenario) → IsNetwork net → OnTheWay cap net s (leastSlots cap net s)
+unfolding leastSlots
+least-on-the-way cap net s is-net =
+    climbed-keeps cap net s (OnTheWay cap net s)
+    (λ slots w.
+    record {
+      long = raised-length cap net s slots ∙ w .long;
+      capped = raised-capped cap net s slots (w .capped);
+      unused = λ x past. raised-unused cap net s slots is-net x past ∙ w .unused x past;
+      below = λ φ k. raised-below cap net s slots is-net φ k (w .below φ k);
+    })
+    (8 * cap) (replicate 8 0)
+    (record {
+      long = refl;
+      capped = λ x. rw (zeros-at x) (omega arith);
+      unused = λ x past. zeros-at x;
+      below = λ φ k x lt. rw (zeros-at x) (omega arith);
+    })
+
+-- ---- the verdict
+
+within-exactly :
+    (net : Network) (slots : List ℕ) → (withinHorizon net slots ≡ true) ↔ ((x : ℕ) → x < net .points → slotsIn slots x ≤ net .horizon)
+unfolding withinHorizon
+within-exactly net slots = (
+  λ t x lt. leb-is _ _ (all-at (net .points) (λ x. leb (slotsIn slots x) (net .horizon)) t x lt),
+  λ h. all-make (net .points) (λ x. leb (slotsIn slots x) (net .horizon)) (λ x lt. leb-yes _ _ (h x lt)),
+)
+
+-- what decides: the least schedule, or none and zeros
+pub record Decides (net : Network) (s : Scenario) (r : Fixed) : Type 0 where
+  pub found : r .scheduled ≡ true → Least net s (slotsIn (r .slots))
+  pub missing : r .scheduled ≡ false → Schedulable net s → ⊥
+  pub zeros : r .scheduled ≡ false → r .slots ≡ replicate 8 0
+  pub long : length (r .slots) ≡ 8
+  pub unused : (x : ℕ) → net .points ≤ x → slotsIn (r .slots) x ≡ 0
+
+module _ (net : Network) (is-net : IsNetwork net) (some : 1 ≤ net .points) (few : net .points ≤ 8) (s : Scenario) where
+  abbrev cap : ℕ
+  cap = suc (net .horizon)
+
+  abbrev least : List ℕ
+  least = leastSlots cap net s
+
+  -- If every round had moved a slot, all eight would stand at the cap, and point 0 with them.
+  least-rests : withinHorizon net least ≡ true → raised cap net s least ≡ least
+  unfolding leastSlots
+  least-rests t =
+      let w = least-on-the-way cap net s is-net in
+      ⊎-elim
+      (λ e. e)
+      (λ high. let top : slotsIn least 0 ≡ cap = total-top cap least (w .long) (w .capped) high 0 (omega arith) in
+      let early = within-exactly net least .0 t 0 some in
+      absurd (omega arith))
+      (rests-or-high cap net s (8 * cap))
+
+  least-kept : withinHorizon net least ≡ true → Least net s (slotsIn least)
+  least-kept t =
+      let w = least-on-the-way cap net s is-net in
+      let long = w .long in
+      let early = within-exactly net least .0 t in
+      record {
+        schedule =
+            record {
+              within = early;
+              kept = raised-still cap net s least is-net (omega arith) (λ x lt. let h = early x lt in omega arith) (least-rests t);
+            };
+        earliest = λ φ f. w .below φ (f .kept);
+      }
+
+  schedulable-within : Schedulable net s → withinHorizon net least ≡ true
+  schedulable-within h =
+      let w = least-on-the-way cap net s is-net in
+      within-exactly net least .1 (λ x lt. le-trans (w .below (h .slots) (h .schedule .kept) x lt) (h .schedule .within x lt))
+
+  pub verdict-decides : Decides net s (verdictOf net s)
+  unfolding verdictOf fixed
+  verdict-decides =
+      let w = least-on-the-way cap net s is-net in
+      by-test (withinHorizon net least)
+      (λ y. rw y (record {
+        found = λ t. least-kept y;
+        missing = λ z. clash refl z;
+        zeros = λ z. clash refl z;
+        long = w .long;
+        unused = w .unused;
+      }))
+      (λ z. rw z (record {
+        found = λ t. clash t refl;
+        missing = λ t h. clash (schedulable-within h) z;
+        zeros = λ t. refl;
+        long = refl;
+        unused = λ x past. zeros-at x;
+      }))

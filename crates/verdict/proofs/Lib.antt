@@ -1,0 +1,4 @@
+-- Laws: the modules of this folder. Only the checker need believe them; VerdictTheorems.antt has statements to read.
+pub mod TotalLaws
+pub mod LeastLaws
+pub mod CodeLaws
