@@ -112,3 +112,7 @@ says-or {a} {b} f g = (
   λ t. by-test a (λ y. inl (f .0 y)) (λ z. inr (g .0 (rw z at t))),
   λ h. ⊎-elim (λ x. rw (f .1 x)) (λ y. or-right a (g .1 y)) h,
 )
+
+-- a test that says A where it is true says that A fails where it is false
+pub false-exactly : {b : Bool} {A : Type 0} → ((b ≡ true) ↔ A) → (b ≡ false) ↔ (A → ⊥)
+false-exactly {b} f = (λ z a. clash (f .1 a) z, λ n. by-test b (λ t. absurd (n (f .0 t))) (λ z. z))

@@ -1,25 +1,27 @@
 -- Cases: small networks of document 01, computed, and what the definitions say of them. Only the checker need believe this file; a reader
 -- may like to.
 use mathlib.Core.Path.{_≡_, refl}
-use mathlib.Core.Logic.{inl, inr, ⊎-elim}
+use mathlib.Core.Logic.{inl, inr, ⊎-elim, by-cases}
 use mathlib.Core.List.{List, [], _∷_}
 use mathlib.Core.Bool.{Bool, true, false, cond}
-use Prim.Native.Nat.{ℕ, zero, suc, _%_}
+use Prim.Native.Nat.{ℕ, zero, suc, _+_, _%_, _≤_}
 use native.Mathlib.Omega.{arith}
 use native.Mathlib.Nat.{not-suc-le-zero}
-use lib.Dec.{eqb}
+use native.Mathlib.Decide.{decLt}
+use lib.Dec.{leb, eqb}
 use lib.IntN.{ℤ, pos, negsuc}
 use Rattle.network.specs.Mask.{bit, mask, count, allBelow, anyBelow, firstBelow, joinBelow, sumBelow, submask}
-use Rattle.network.specs.Network.{Constraint, Network, condition, holds, projected, atMost, feasible, keeps}
+use Rattle.network.specs.Network.{Constraint, Network, Schedule, condition, holds, projected, atMost, feasible, keeps}
 use Rattle.network.specs.Strategy.{ConditionScenario, Strategy, Viable, InHistory, SameHistory, Dynamic}
+use Rattle.network.specs.Fixed.{ScheduleFor, Least, Setting, PassesScreen}
 use Rattle.network.specs.Game.{start, Move, Legal, after}
 use Rattle.network.specs.Tree.{preorder, nodes}
 use Rattle.network.specs.Search.{over, winsBy, winsWith, winsIn, winnable, firstMove, firstTreeFrom, firstTree, hopeless}
 use Rattle.network.specs.FirstMoves.{Before}
 use Rattle.network.specs.Crew.{Step, Some, Hears}
 use Rattle.network.specs.Policy.{Policy, observe, heardBefore}
-use Rattle.network.proofs.Booleans.{by-test, clash}
-use Rattle.network.proofs.MaskLaws.{bit-zero}
+use Rattle.network.proofs.Booleans.{by-test, clash, and-left, leb-is, ltb-yes, differs}
+use Rattle.network.proofs.MaskLaws.{bit-zero, bit-above}
 
 -- Y − X ≤ d where the letters of n are as t shows
 abbrev at-most : ℕ → ℕ → ℤ → ℕ → ℕ → Constraint
@@ -146,6 +148,69 @@ foreseeing-not-dynamic d =
 
     none : ConditionScenario k6 0
     none l b = clash b (bit-zero l)
+
+-- ---- fixed outcomes: the least schedule, and the screen
+
+-- point 1 at least 2 after point 0
+abbrev waits : Network
+waits = network 3 2 0 the-world (at-most 1 0 (negsuc 1) 0 0 ∷ [])
+
+abbrev slots : ℕ → ℕ → Schedule
+slots a b x = cond (eqb x 0) a b
+
+-- slots 0 and 2 are the least schedule; slots 1 and 3 are one, as late as can be
+pub least-schedule : Least waits (bit 0) (slots 0 2)
+unfolding bit allBelow holds projected atMost feasible keeps
+least-schedule =
+    record {
+      schedule =
+          record {
+            within = λ x lt. by-test (eqb x 0) (λ y. rw y (omega arith)) (λ z. rw z (omega arith));
+            kept = refl;
+          };
+      earliest = λ φ f x lt. by-test (eqb x 0)
+          (λ y. rw y (omega arith))
+          (λ z. let one : x ≡ 1 = omega (arith, differs x 0 z) in
+          let kept : φ 0 + 2 ≤ φ 1 = leb-is _ _ (and-left (leb (φ 0 + 2) (φ 1)) true (f .kept)) in
+          rw one (omega arith));
+    }
+
+pub later-schedule : ScheduleFor waits (bit 0) (slots 1 3)
+unfolding bit allBelow holds projected atMost feasible keeps
+later-schedule =
+    record { within = λ x lt. by-test (eqb x 0) (λ y. rw y (omega arith)) (λ z. rw z (omega arith)); kept = refl }
+
+pub later-not-least : ¬ Least waits (bit 0) (slots 1 3)
+later-not-least l = let e : 1 ≤ 0 = l .earliest (slots 0 2) (least-schedule .schedule) 0 (omega arith) in omega arith
+
+-- K6 passes the screen, K8 does not
+pub k6-passes : PassesScreen k6
+k6-passes m setting =
+    let conditions : ConditionScenario k6 m = λ l b. rw (ltb-yes l 1 (setting l b)) in
+    record {
+      slots = foreseeing .time m;
+      schedule = record { within = foreseeing-viable .within m conditions; kept = foreseeing-viable .keeping m conditions };
+    }
+
+-- one setting without a schedule is enough: here that in which letter 0 is true
+abbrev not-if-true : Network
+not-if-true = network 1 1 1 the-world (at-most 0 0 (negsuc 0) 1 1 ∷ [])
+
+pub last-setting-fails : ¬ PassesScreen not-if-true
+unfolding bit allBelow holds projected atMost feasible keeps
+last-setting-fails f =
+    let setting : Setting not-if-true 1 = λ l b. by-cases (decLt l 1) (λ lt. omega arith) (λ ge. clash b (bit-above 1 1 l (omega arith) (omega arith))) in
+    let found = f 1 setting in
+    let kept : found .slots 0 + 1 ≤ found .slots 0 = leb-is _ _ (and-left _ true (found .schedule .kept)) in
+    omega arith
+
+pub k8-fails : ¬ PassesScreen k8
+unfolding bit allBelow holds projected atMost feasible keeps
+k8-fails f =
+    let found = f 0 (λ l b. clash b (bit-zero l)) in
+    let kept : found .slots 0 + 2 ≤ found .slots 1 = leb-is _ _ (and-left _ true (found .schedule .kept)) in
+    let last = found .schedule .within 1 (omega arith) in
+    omega arith
 
 -- ---- policies: what a crew has heard by a slot
 

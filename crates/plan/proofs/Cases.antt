@@ -45,7 +45,7 @@ move t ps ch = record { slot = t; points = ps; choices = ch }
 
 -- ---- the network of a plan: document 01's K4, K5, K7, K8, and K4 with its two points exchanged
 
-abbrev apart : ℕ → List Constraint
+abbrev pub apart : ℕ → List Constraint
 apart d = constraint 0 1 d 1 1 ∷ (constraint 1 0 65534 1 0 ∷ [])
 
 abbrev pub k4 : Plan
@@ -54,10 +54,10 @@ k4 = plan 2 2 (letter 0 0 ∷ []) (apart 1)
 abbrev pub k5 : Plan
 k5 = plan 1 2 (letter 0 0 ∷ []) (apart 1)
 
-abbrev k7 : Plan
+abbrev pub k7 : Plan
 k7 = plan 2 2 (letter 0 1 ∷ []) (apart 0)
 
-abbrev k8 : Plan
+abbrev pub k8 : Plan
 k8 = plan 1 2 (letter 0 1 ∷ []) (apart 0)
 
 abbrev exchanged : Plan

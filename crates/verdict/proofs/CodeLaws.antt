@@ -5,30 +5,19 @@ use mathlib.Core.List.{List}
 use Prim.Native.Nat.{ℕ, suc, _+_, _-_, _*_, _%_, _^_, _≤_, _<_}
 use native.Mathlib.Omega.{arith}
 use native.Mathlib.Numerals.{add-one}
-use lib.Dec.{eqb, ltb}
+use lib.Dec.{eqb}
 use lib.Pow.{pow-lt}
 use lib.ListN.{length, replicate}
 use lib.Seq.{ext-getD}
-use Rattle.network.specs.Mask.{bit, allBelow}
+use Rattle.network.specs.Mask.{allBelow}
 use Rattle.network.specs.Network.{Network, Scenario, slotsIn}
 use Rattle.network.specs.Raise.{raised}
 use Rattle.network.proofs.Booleans.{by-test, clash, eqb-yes, eqb-is}
 use Rattle.network.proofs.BelowLaws.{all-at, all-make}
 use Rattle.network.proofs.RaiseLaws.{raised-length, raised-capped}
-use Rattle.plan.specs.declared.Plan.{Plan}
-use Rattle.plan.specs.declared.Refusal.{Refusal}
-use Rattle.plan.specs.declared.Refusal.the-variants as refusal
-use Rattle.plan.specs.Refusal.{refusalNumber}
-use Rattle.plan.specs.Answer.{unless, first, fine, answered}
-use Rattle.plan.specs.Plan.{networkOf}
-use Rattle.judge.specs.Judge.{planFault}
-use Rattle.plan.proofs.RefusalLaws.{some-number}
-use Rattle.plan.proofs.SliceLaws.{all-same}
-use Rattle.verdict.specs.declared.Found.the-variants as found
-use Rattle.verdict.specs.declared.screen.Screened.the-variants as screen
-use Rattle.verdict.specs.Verdict.{climbed, leastSlots, withinHorizon, Fixed, none, fixed, verdictOf, verdictFault, leastSchedule, saying, passes, screened, screenAnswer}
+use Rattle.verdict.specs.Verdict.{climbed, leastSlots, withinHorizon, Fixed, none, fixed, verdictOf}
 use Rattle.verdict.proofs.TotalLaws.{total, total-capped}
-use Rattle.verdict.proofs.LeastLaws.{climbed-next, rises, rests-at}
+use Rattle.verdict.proofs.LeastLaws.{climbed-next, rises, rests-at, zeros-at}
 
 -- ---- eight slots compared
 
@@ -58,7 +47,7 @@ module _ (cap : ℕ) (net : Network) (s : Scenario) where
   climbing-start = record { long = refl; capped = zeros; rounds = 0; raising = omega arith; way = refl }
     where
       zeros : (x : ℕ) → slotsIn (replicate 8 0) x ≤ cap
-      zeros x = let e : slotsIn (replicate 8 0) x ≡ 0 = all-same {E = ℕ} 8 0 x in omega arith
+      zeros x = let e = zeros-at x in omega arith
 
   -- one more round
   module _ (slots next : List ℕ) (c : Climbing slots) (e : next ≡ raised cap net s slots) where
@@ -117,27 +106,3 @@ settings-are n h =
     let small : n < 8 = omega arith in
     let q : 2 ^ n < 2 ^ 8 = pow-lt small in
     omega arith
-
--- ---- what the calls answer
-
-module _ (p : Plan) where
-  module _ (m : ℕ) where
-    pub refused-plan : (r : Refusal) → refusalNumber r ≡ planFault p → saying (found.Refused r) (replicate 8 0) ≡ leastSchedule p m
-    unfolding leastSchedule verdictFault first answered
-    refused-plan r e = rw (← e) (simp (some-number r))
-
-    pub refused-mask : 0 ≡ planFault p → ltb m (2 ^ p .letters) ≡ false → saying (found.Refused refusal.Mask) (replicate 8 0) ≡ leastSchedule p m
-    unfolding leastSchedule verdictFault first unless answered
-    refused-mask e z = rw (← e, z)
-
-    pub decided : 0 ≡ planFault p → ltb m (2 ^ p .letters) ≡ true → fine (verdictOf (networkOf p) (bit m)) ≡ leastSchedule p m
-    unfolding leastSchedule verdictFault first unless answered
-    decided e y = rw (← e, y)
-
-  pub screen-refused : (r : Refusal) → refusalNumber r ≡ planFault p → screenAnswer (screen.Refused r) ≡ screened p
-  unfolding screened answered
-  screen-refused r e = rw (← e, some-number r)
-
-  pub screen-decided : 0 ≡ planFault p → (b : Bool) → b ≡ passes p → fine b ≡ screened p
-  unfolding screened answered
-  screen-decided e b same = rw (← e, same)

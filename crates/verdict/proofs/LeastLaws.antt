@@ -9,13 +9,15 @@ use native.Mathlib.Omega.{arith}
 use native.Mathlib.Nat.{le-trans, zero-add, suc-add}
 use native.Mathlib.Decide.{decLt}
 use lib.Dec.{leb}
-use lib.ListN.{length, replicate, getD-replicate, List·getD-eq-default}
+use lib.ListN.{length, replicate}
+use lib.Seq.{ext-getD}
 use Rattle.network.specs.Network.{Network, Scenario, Schedule, slotsIn, keeps, IsNetwork}
-use Rattle.network.specs.Fixed.{ScheduleFor, Least, Schedulable}
+use Rattle.network.specs.Fixed.{Least, Schedulable}
 use Rattle.network.specs.Raise.{raised}
 use Rattle.network.proofs.Booleans.{by-test, clash, leb-yes, leb-is}
 use Rattle.network.proofs.BelowLaws.{all-at, all-make}
 use Rattle.network.proofs.RaiseLaws.{raised-length, raised-above, raised-capped, raised-unused, raised-below, raised-still}
+use Rattle.plan.proofs.SliceLaws.{all-same}
 use Rattle.verdict.specs.Verdict.{climbed, leastSlots, withinHorizon, Fixed, none, fixed, verdictOf}
 use Rattle.verdict.proofs.TotalLaws.{total, total-same, total-top}
 
@@ -42,7 +44,7 @@ module _ (cap : ℕ) (net : Network) (s : Scenario) where
   climbed-rests (suc n) slots e = rw e (climbed-rests n slots e)
 
   -- what each round keeps
-  climbed-keeps :
+  pub climbed-keeps :
       (P : List ℕ → Type 0) → ((slots : List ℕ) → P slots → P (raised cap net s slots)) → (n : ℕ) (slots : List ℕ) → P slots →
       P (climbed n cap net s slots)
   unfolding climbed
@@ -85,9 +87,8 @@ module _ (cap : ℕ) (net : Network) (s : Scenario) where
 
 -- ---- what holds on the way
 
-zeros-at : (x : ℕ) → slotsIn (replicate 8 0) x ≡ 0
-zeros-at x =
-    by-cases (decLt x 8) (getD-replicate 8 x 0 0) (λ ge. List·getD-eq-default (replicate 8 0) 0 {n = x} (omega arith))
+pub zeros-at : (x : ℕ) → slotsIn (replicate 8 0) x ≡ 0
+zeros-at = all-same {E = ℕ} 8 0
 
 record OnTheWay (cap : ℕ) (net : Network) (s : Scenario) (slots : List ℕ) : Type 0 where
   long : length slots ≡ 8
@@ -124,13 +125,43 @@ within-exactly net slots = (
   λ h. all-make (net .points) (λ x. leb (slotsIn slots x) (net .horizon)) (λ x lt. leb-yes _ _ (h x lt)),
 )
 
--- what decides: the least schedule, or none and zeros
+-- two lists of eight slots that agree at the points and are zero behind them
+pub same-slots :
+    (n : ℕ) (a b : List ℕ) → length a ≡ 8 → length b ≡ 8 → ((x : ℕ) → x < n → slotsIn a x ≡ slotsIn b x) →
+    ((x : ℕ) → n ≤ x → slotsIn a x ≡ 0) → ((x : ℕ) → n ≤ x → slotsIn b x ≡ 0) → a ≡ b
+same-slots n a b long-a long-b agree zero-a zero-b =
+    ext-getD 0 a b (long-a ∙ sym long-b) (λ x lt. by-cases (decLt x n)
+    (agree x)
+    (λ ge. zero-a x (omega arith) ∙ sym (zero-b x (omega arith))))
+
+-- eight slots, all zero beside "none": of every network
+pub record EightSlots (r : Fixed) : Type 0 where
+  pub long : length (r .slots) ≡ 8
+  pub zeros : r .scheduled ≡ false → r .slots ≡ replicate 8 0
+
+pub none-eight : EightSlots none
+none-eight = record { long = refl; zeros = λ z. refl }
+
+pub verdict-eight : (net : Network) (s : Scenario) → EightSlots (verdictOf net s)
+unfolding verdictOf fixed leastSlots
+verdict-eight net s =
+    let cap : ℕ = suc (net .horizon) in
+    let long = climbed-keeps cap net s (λ slots. length slots ≡ 8) (λ slots l. raised-length cap net s slots ∙ l) (8 * cap) _ refl in
+    by-test (withinHorizon net (leastSlots cap net s))
+    (λ y. rw y (record { long = long; zeros = λ z. clash refl z }))
+    (λ z. rw z none-eight)
+
+-- the least schedule, or that there is none
 pub record Decides (net : Network) (s : Scenario) (r : Fixed) : Type 0 where
   pub found : r .scheduled ≡ true → Least net s (slotsIn (r .slots))
   pub missing : r .scheduled ≡ false → Schedulable net s → ⊥
-  pub zeros : r .scheduled ≡ false → r .slots ≡ replicate 8 0
-  pub long : length (r .slots) ≡ 8
   pub unused : (x : ℕ) → net .points ≤ x → slotsIn (r .slots) x ≡ 0
+
+pub decides-yes : {net : Network} {s : Scenario} {r : Fixed} → Decides net s r → (r .scheduled ≡ true) ↔ Schedulable net s
+decides-yes {r = r} d = (
+  λ t. record { slots = slotsIn (r .slots); schedule = d .found t .schedule },
+  λ h. by-test (r .scheduled) (λ t. t) (λ z. absurd (d .missing z h)),
+)
 
 module _ (net : Network) (is-net : IsNetwork net) (some : 1 ≤ net .points) (few : net .points ≤ 8) (s : Scenario) where
   abbrev cap : ℕ
@@ -178,14 +209,10 @@ module _ (net : Network) (is-net : IsNetwork net) (some : 1 ≤ net .points) (fe
       (λ y. rw y (record {
         found = λ t. least-kept y;
         missing = λ z. clash refl z;
-        zeros = λ z. clash refl z;
-        long = w .long;
         unused = w .unused;
       }))
       (λ z. rw z (record {
         found = λ t. clash t refl;
         missing = λ t h. clash (schedulable-within h) z;
-        zeros = λ t. refl;
-        long = refl;
         unused = λ x past. zeros-at x;
       }))

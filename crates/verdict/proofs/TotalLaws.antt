@@ -1,9 +1,9 @@
 -- The total of a list of slots, by which a climb is measured, and its laws. Only the checker need believe this file.
-use mathlib.Core.Path.{_≡_, refl, sym, ap, _∙_}
+use mathlib.Core.Path.{_≡_, refl}
 use mathlib.Core.List.{List, [], _∷_}
 use Prim.Native.Nat.{ℕ, zero, suc, _+_, _*_, _≤_, _<_}
 use native.Mathlib.Omega.{arith}
-use lib.ListN.{length, replicate}
+use lib.ListN.{length}
 use Rattle.network.specs.Network.{slotsIn}
 
 unfoldable pub total : List ℕ → ℕ
@@ -41,7 +41,8 @@ module _ (cap : ℕ) where
   total-under [] h = omega arith
   total-under (x ∷ xs) h = let here = h zero in let rest = total-under xs (λ i. h (suc i)) in omega arith
 
-  total-full : (xs : List ℕ) → ((x : ℕ) → slotsIn xs x ≤ cap) → length xs * cap ≤ total xs → (x : ℕ) → x < length xs → slotsIn xs x ≡ cap
+  total-full :
+      (xs : List ℕ) → ((x : ℕ) → slotsIn xs x ≤ cap) → length xs * cap ≤ total xs → (x : ℕ) → x < length xs → slotsIn xs x ≡ cap
   unfolding total
   total-full [] h t x lt = absurd (omega arith)
   total-full (y ∷ ys) h t zero lt = let here = h zero in let rest = total-under ys (λ i. h (suc i)) in omega arith

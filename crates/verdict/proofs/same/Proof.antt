@@ -1,20 +1,16 @@
 -- `same`: the slots passed are the same, and one that differs decides. Only the checker need believe this file.
 use mathlib.Core.Path.{_≡_, sym}
-use mathlib.Core.Bool.{Bool, true}
-use mathlib.Core.List.{List}
-use Prim.Native.Nat.{ℕ, _-_, _≤_}
+use mathlib.Core.Bool.{true}
+use Prim.Native.Nat.{_-_, _≤_}
 use native.Mathlib.Omega.{arith}
 use borrow.Author.Needs.{needs}
-use lib.Dec.{eqb}
 use Rattle.network.specs.Mask.{allBelow}
 use Rattle.network.specs.Network.{slotsIn}
 use Rattle.network.proofs.Booleans.{eqb-yes, eqb-no}
 use Rattle.network.proofs.BelowLaws.{all-start, all-next, all-fails}
+use Rattle.verdict.proofs.CodeLaws.{alike}
 use Rattle.verdict.proofs.same.Statement.{statement}
 use Rattle.verdict.proofs.same.Tie as tie
-
-abbrev alike : List ℕ → List ℕ → ℕ → Bool
-alike a b x = eqb (slotsIn a x) (slotsIn b x)
 
 abbrev Inv-loop : tie.InvT-loop
 Inv-loop a b x₀ x = (x ≤ 8) × (allBelow x (alike a b) ≡ true)

@@ -1,5 +1,5 @@
 -- `least_from`: one law for each sign of the bound. Only the checker need believe this file.
-use mathlib.Core.Path.{sym, _∙_}
+use mathlib.Core.Path.{sym}
 use native.Mathlib.Omega.{arith}
 use borrow.Author.Needs.{needs}
 use Rattle.constraints.proofs.RaisingLaws.{least-pos, least-neg}

@@ -5,7 +5,6 @@ use Prim.Native.Nat.{ℕ, _-_, _≤_}
 use native.Mathlib.Omega.{arith}
 use borrow.Author.Needs.{needs}
 use Rattle.network.specs.Mask.{bit}
-use Rattle.network.specs.Network.{Constraint}
 use Rattle.network.specs.Raise.{turns}
 use Rattle.plan.specs.declared.Plan.{Plan}
 use Rattle.plan.specs.Plan.{constraintAt, constraintOf, listed}

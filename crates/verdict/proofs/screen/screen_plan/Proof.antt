@@ -5,7 +5,7 @@ use Rattle.plan.specs.Refusal.{judgedNumber}
 use Rattle.plan.specs.WellFormed.{WellFormed}
 use Rattle.judge.specs.Judge.{planFault}
 use Rattle.judge.proofs.WellFormedLaws.{fine-exactly}
-use Rattle.verdict.proofs.CodeLaws.{screen-refused, screen-decided}
+use Rattle.verdict.proofs.AnswerLaws.{screen-refused, screen-decided}
 use Rattle.verdict.proofs.screen.screen_plan.Statement.{statement}
 use Rattle.verdict.proofs.screen.screen_plan.Tie as tie
 
