@@ -199,7 +199,9 @@ not-if-true = network 1 1 1 the-world (at-most 0 0 (negsuc 0) 1 1 ∷ [])
 pub last-setting-fails : ¬ PassesScreen not-if-true
 unfolding bit allBelow holds projected atMost feasible keeps
 last-setting-fails f =
-    let setting : Setting not-if-true 1 = λ l b. by-cases (decLt l 1) (λ lt. omega arith) (λ ge. clash b (bit-above 1 1 l (omega arith) (omega arith))) in
+    let setting : Setting not-if-true 1 = λ l b. by-cases (decLt l 1)
+    (λ lt. omega arith)
+    (λ ge. clash b (bit-above 1 1 l (omega arith) (omega arith))) in
     let found = f 1 setting in
     let kept : found .slots 0 + 1 ≤ found .slots 0 = leb-is _ _ (and-left _ true (found .schedule .kept)) in
     omega arith

@@ -111,14 +111,18 @@ module _ (p : Plan) where
     unfolding leastSchedule verdictFault first answered
     refused-plan r e = rw (← e) (simp (some-number r))
 
+    verdict-fault : 0 ≡ planFault p → (b : Bool) → ltb m (2 ^ p .letters) ≡ b → verdictFault p m ≡ unless b refusal.Mask
+    unfolding verdictFault first
+    verdict-fault e b t = rw (← e) (ap (λ (c : Bool). unless c refusal.Mask) t)
+
     pub refused-mask :
         0 ≡ planFault p → ltb m (2 ^ p .letters) ≡ false → saying (found.Refused refusal.Mask) (replicate 8 0) ≡ leastSchedule p m
-    unfolding leastSchedule verdictFault first unless answered
-    refused-mask e z = rw (← e, z)
+    unfolding leastSchedule unless answered
+    refused-mask e z = rw (verdict-fault e false z)
 
     pub decided : 0 ≡ planFault p → ltb m (2 ^ p .letters) ≡ true → fine (verdictOf (networkOf p) (bit m)) ≡ leastSchedule p m
-    unfolding leastSchedule verdictFault first unless answered
-    decided e y = rw (← e, y)
+    unfolding leastSchedule unless answered
+    decided e y = rw (verdict-fault e true y)
 
   pub screen-refused : (r : Refusal) → refusalNumber r ≡ planFault p → screenAnswer (screen.Refused r) ≡ screened p
   unfolding screened answered

@@ -97,7 +97,10 @@ module _ (net : Network) (s : Scenario) (slots : List ℕ) (e : slots ≡ leastS
   not-scheduled z = rw z at is-fixed
 
   pub says-scheduled : withinHorizon net slots ≡ verdictOf net s .scheduled
-  says-scheduled = by-test (withinHorizon net slots) (λ t. t ∙ ap (λ f. f .scheduled) (scheduled t)) (λ z. z ∙ ap (λ f. f .scheduled) (not-scheduled z))
+  says-scheduled =
+      by-test (withinHorizon net slots)
+      (λ t. t ∙ ap (λ (f : Fixed). f .scheduled) (scheduled t))
+      (λ z. z ∙ ap (λ (f : Fixed). f .scheduled) (not-scheduled z))
 
 -- ---- the settings of all letters, as the code shifts them
 

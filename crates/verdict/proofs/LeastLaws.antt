@@ -82,8 +82,10 @@ module _ (cap : ℕ) (net : Network) (s : Scenario) where
       raised cap net s slots ≡ slots → slots ≡ leastSlots cap net s
   unfolding leastSlots
   rests-at k slots low high way e =
-      let rounds : 8 * cap ≡ k + (8 * cap - k) = omega arith in
-      rw (rounds, climbed-split k (8 * cap - k) (replicate 8 0), ← way) (sym (climbed-rests (8 * cap - k) slots e))
+      let more : ℕ = 8 * cap - k in
+      let rounds : k + more ≡ 8 * cap = omega arith in
+      sym (climbed-rests more slots e) ∙ ap (climbed more cap net s) way ∙ sym (climbed-split k more (replicate 8 0))
+      ∙ ap (λ (n : ℕ). climbed n cap net s (replicate 8 0)) rounds
 
 -- ---- what holds on the way
 

@@ -20,7 +20,8 @@ within-horizon-requires c κs = search needs
 returns : tie.Need-returns
 returns c =
     let a = c .before .before .before .before .args in
-    ap fine (scheduled (networkOf (a .plan)) (bit (a .values)) (c .before .before .least-slots .result) (c .before .before .least-slots .ensures)
+    let least = c .before .before .least-slots in
+    ap fine (scheduled (networkOf (a .plan)) (bit (a .values)) (least .result) (least .ensures)
     (sym (c .before .within-horizon .ensures) ∙ c .if1 .taken))
 
 without-schedule-requires : tie.Need-without-schedule-requires
@@ -29,8 +30,9 @@ without-schedule-requires c κs = search needs
 returns-2 : tie.Need-returns-2
 returns-2 c =
     let a = c .before .before .before .before .before .args in
+    let least = c .before .before .before .least-slots in
     c .without-schedule .ensures
-    ∙ ap fine (not-scheduled (networkOf (a .plan)) (bit (a .values)) (c .before .before .before .least-slots .result) (c .before .before .before .least-slots .ensures)
+    ∙ ap fine (not-scheduled (networkOf (a .plan)) (bit (a .values)) (least .result) (least .ensures)
     (sym (c .before .before .within-horizon .ensures) ∙ c .before .if1 .left))
 
 pub decide-spec : {M : Type 1} → statement M

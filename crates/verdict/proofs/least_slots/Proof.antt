@@ -27,20 +27,26 @@ same-requires c κs = search needs
 returns : tie.Need-returns Inv-loop μ-loop
 returns c =
     let a = c .before .before .before .before .args in
-    climbing-rests (a .cap) (networkOf (a .plan)) (bit (a .values)) (c .before .before .before .loop .slots) (c .before .before .raise .result) (c .before .before .before .loop .inv)
-    (c .before .before .raise .ensures) (sym (c .before .same .ensures) ∙ c .if1 .taken)
+    let now = c .before .before .before .loop in
+    let next = c .before .before .raise in
+    climbing-rests (a .cap) (networkOf (a .plan)) (bit (a .values)) (now .slots) (next .result) (now .inv) (next .ensures)
+    (sym (c .before .same .ensures) ∙ c .if1 .taken)
 
 loop-less : tie.Need-loop-less Inv-loop μ-loop
 loop-less c =
     let a = c .before .before .before .before .args in
-    less-to-rise (a .cap) (networkOf (a .plan)) (bit (a .values)) (c .before .before .before .loop .slots) (c .before .before .raise .result) (c .before .before .before .loop .inv)
-    (c .before .before .raise .ensures) (sym (c .before .same .ensures) ∙ c .if1 .left)
+    let now = c .before .before .before .loop in
+    let next = c .before .before .raise in
+    less-to-rise (a .cap) (networkOf (a .plan)) (bit (a .values)) (now .slots) (next .result) (now .inv) (next .ensures)
+    (sym (c .before .same .ensures) ∙ c .if1 .left)
 
 loop-again : tie.Need-loop-again Inv-loop μ-loop
 loop-again c =
     let a = c .before .before .before .before .args in
-    climbing-next (a .cap) (networkOf (a .plan)) (bit (a .values)) (c .before .before .before .loop .slots) (c .before .before .raise .result) (c .before .before .before .loop .inv)
-    (c .before .before .raise .ensures) (sym (c .before .same .ensures) ∙ c .if1 .left)
+    let now = c .before .before .before .loop in
+    let next = c .before .before .raise in
+    climbing-next (a .cap) (networkOf (a .plan)) (bit (a .values)) (now .slots) (next .result) (now .inv) (next .ensures)
+    (sym (c .before .same .ensures) ∙ c .if1 .left)
 
 pub least-slots-spec : {M : Type 1} → statement M
 least-slots-spec =

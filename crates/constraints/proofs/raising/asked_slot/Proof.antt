@@ -26,9 +26,11 @@ least-from-requires c κs = search needs
 returns-2 : tie.Need-returns-2
 unfolding asked
 returns-2 c =
-    let held = not-false (c .before .before .before .label-holds .result) (c .before .before .if1 .left) in
+    let a = c .before .before .before .before .args in
+    let label = c .before .before .before .label-holds in
+    let held = not-false (label .result) (c .before .before .if1 .left) in
     c .least-from .ensures
-    ∙ rw (← c .before .before .before .label-holds .ensures, held) (ap (λ (y : ℕ). leastFrom y (signed (c .before .before .before .before .args .c .bound))) (c .before .slot-of .ensures))
+    ∙ rw (← label .ensures, held) (ap (λ (y : ℕ). leastFrom y (signed (a .c .bound))) (c .before .slot-of .ensures))
 
 pub asked-slot-spec : {M : Type 1} → statement M
 asked-slot-spec =

@@ -40,9 +40,12 @@ loop-less c = omega arith
 
 loop-again : tie.Need-loop-again Inv-loop μ-loop
 loop-again c =
-    let a = c .before .before .before .before .args in (
+    let a = c .before .before .before .before .args in
+    let now = c .before .before .before .loop in (
       omega arith,
-      c .take-turn .ensures ∙ rw (c .before .constraint-at .ensures, c .before .before .before .loop .inv .1) (sym (turns-next (a .cap) (bit (a .values)) _ (c .before .before .before .loop .k) (λ i. constraintOf (constraintAt (a .plan) i)))),
+      c .take-turn .ensures
+          ∙ rw (c .before .constraint-at .ensures, now .inv .1)
+          (sym (turns-next (a .cap) (bit (a .values)) _ (now .k) (λ i. constraintOf (constraintAt (a .plan) i)))),
     )
 
 returns : tie.Need-returns Inv-loop μ-loop
