@@ -1,4 +1,4 @@
-// The label test, what it is to keep a constraint, and the raise. No other code knows what a constraint is.
+// The label test, what it is to keep a constraint, and the raise. What a constraint asks is known to this crate alone.
 pub mod raising;
 
 use plan::Constraint;

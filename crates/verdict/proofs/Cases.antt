@@ -84,14 +84,14 @@ climbs = (refl, refl, refl, refl, refl, refl)
 
 -- ---- bounds
 
--- point 0 at least 63 after point 2, point 1 at most d before it
+-- point 0 at least 20 after point 2, point 1 at most d before it
 abbrev before : ℕ → Plan
-before d = plan 63 3 [] (constraint 0 2 65473 0 0 ∷ (constraint 1 0 d 0 0 ∷ []))
+before d = plan 20 3 [] (constraint 0 2 65516 0 0 ∷ (constraint 1 0 d 0 0 ∷ []))
 
--- 999, 63, 62 and 0 slots before slot 63, and -1: past it. A point 999, 63 and 64 after another.
+-- 999, 20, 19 and 0 slots before slot 20, the last, and -1: past it. A point 999, 63 and 64 after another where slot 63 is the last.
 pub bounds :
-    (leastSchedule (before 999) 0 ≡ schedule (63 ∷ 0 ∷ 0 ∷ [])) × (leastSchedule (before 63) 0 ≡ schedule (63 ∷ 0 ∷ 0 ∷ []))
-    × (leastSchedule (before 62) 0 ≡ schedule (63 ∷ 1 ∷ 0 ∷ [])) × (leastSchedule (before 0) 0 ≡ schedule (63 ∷ 63 ∷ 0 ∷ []))
+    (leastSchedule (before 999) 0 ≡ schedule (20 ∷ 0 ∷ 0 ∷ [])) × (leastSchedule (before 20) 0 ≡ schedule (20 ∷ 0 ∷ 0 ∷ []))
+    × (leastSchedule (before 19) 0 ≡ schedule (20 ∷ 1 ∷ 0 ∷ [])) × (leastSchedule (before 0) 0 ≡ schedule (20 ∷ 20 ∷ 0 ∷ []))
     × (leastSchedule (before 65535) 0 ≡ no-schedule)
     × (leastSchedule (plan 63 2 [] (constraint 1 0 64537 0 0 ∷ [])) 0 ≡ no-schedule)
     × (leastSchedule (plan 63 2 [] (constraint 1 0 65473 0 0 ∷ [])) 0 ≡ schedule (0 ∷ 63 ∷ []))
