@@ -7,8 +7,8 @@ use Prim.Native.Nat.{ℕ, _+_, _-_, _≤_, _<_}
 use lib.ListN.{length}
 use Rattle.plan.specs.declared.Refusal.{Refusal}
 use Rattle.plan.specs.Refusal.{refusalNumber}
-use Rattle.plan.specs.Answer.{Answer, refused, answered, andThen}
-use Rattle.plan.proofs.RefusalLaws.{no-refusal, some-number}
+use Rattle.plan.specs.Answer.{Answer, answered, andThen}
+use Rattle.plan.proofs.RefusalLaws.{no-refusal}
 use Rattle.plan.proofs.SliceLaws.{rest, rest-is}
 use Rattle.frame.specs.Frame.{frameLength, whole}
 use Rattle.frame.specs.Texts.{frameFault, framesFrom}
@@ -16,10 +16,6 @@ use Rattle.frame.proofs.FrameLaws.{whole-long}
 use Rattle.frame.proofs.RunLaws.{then-goes, then-stops, frame-read-is, frames-step}
 
 module _ {A : Type 0} where
-  pub answered-refused : (zeros a : A) (r : Refusal) → refused zeros r ≡ answered zeros (refusalNumber r) a
-  unfolding answered
-  answered-refused zeros a r = rw (some-number r)
-
   -- x is what a call answered. Reading goes on behind what is fine, and ends at what is not.
   pub then-on : {x : Answer A} (a : Answer A) (next : A → Answer A) → x ≡ a → x .fault ≡ 0 → andThen a next ≡ next (x .value)
   then-on {x} a next e h = rw (← e) (then-goes x next h)

@@ -14,15 +14,11 @@ use Rattle.plan.specs.declared.Refusal.{Refusal}
 use Rattle.plan.specs.Refusal.{refusalNumber}
 use Rattle.plan.specs.Answer.{unless, first, Answer, fine, answered, andThen, filled}
 use Rattle.plan.proofs.RefusalLaws.{no-refusal}
+use Rattle.plan.proofs.AnswerLaws.{unless-is, unless-of, answered-fault, answered-fine}
 use Rattle.frame.specs.Frame.{frameLength}
 use Rattle.frame.specs.Texts.{frameFault, framesFrom, atEnd}
 
 -- ---- faults
-
-pub unless-is : (b : Bool) (r : Refusal) → unless b r ≡ 0 → b ≡ true
-unfolding unless
-unless-is true r e = refl
-unless-is false r e = absurd (no-refusal r e)
 
 -- a frame has no fault exactly where it is whole and its values are good
 pub frame-fine-is : (text values : Refusal) (w g : Bool) → frameFault text w values g ≡ 0 → (w ≡ true) × (g ≡ true)
@@ -35,12 +31,7 @@ pub frame-fine : (text values : Refusal) {w g : Bool} → w ≡ true → g ≡ t
 unfolding frameFault first unless
 frame-fine text values e f = rw (e, f)
 
--- a test's fault is none or its refusal's, a frame's none or one of its two refusals'
-pub unless-of : (P : ℕ → Type 0) (b : Bool) (r : Refusal) → P 0 → P (refusalNumber r) → P (unless b r)
-unfolding unless
-unless-of P true r none t = none
-unless-of P false r none t = t
-
+-- a frame's fault is none or one of its two refusals'
 pub frame-fault-of :
     (P : ℕ → Type 0) (text values : Refusal) (w g : Bool) → P 0 → P (refusalNumber text) → P (refusalNumber values) →
     P (frameFault text w values g)
@@ -53,22 +44,6 @@ frame-fault-of P text values w g none t v =
 -- ---- answers
 
 module _ {A : Type 0} where
-  pub answered-fault : (zeros : A) (n : ℕ) (a : A) → answered zeros n a .fault ≡ n
-  unfolding answered
-  answered-fault zeros n a = refl
-
-  pub answered-fine : (zeros : A) (n : ℕ) (a : A) → n ≡ 0 → answered zeros n a ≡ fine a
-  unfolding answered
-  answered-fine zeros n a e = rw e
-
-  -- beside a fault the value's place is all zero
-  abbrev pub ZeroBeside : A → Answer A → Type 0
-  ZeroBeside zeros x = ¬ (x .fault ≡ 0) → x .value ≡ zeros
-
-  pub answered-zero : (zeros : A) (n : ℕ) (a : A) → ZeroBeside zeros (answered zeros n a)
-  unfolding answered
-  answered-zero zeros n a ne = rw (eqb-no n 0 ne)
-
   -- what each of two answers has, one after the other has
   pub then-each : (P : Answer A → Type 0) (a : Answer A) (next : A → Answer A) → P a → ((b : A) → P (next b)) → P (andThen a next)
   unfolding andThen

@@ -8,11 +8,12 @@ use Prim.Native.Nat.{ℕ, zero, suc, _+_, _-_, _*_, _%_, _^_, _≤_, _<_}
 use native.Mathlib.Omega.{arith}
 use native.Mathlib.Decide.{decLt}
 use lib.Dec.{ltb}
-use lib.Pow.{pow-pos, pow-lt}
+use lib.Pow.{pow-pos}
 use lib.ListN.{length, getD, set, length-set}
 use lib.Seq.{getD-set-same, getD-set-other, ext-getD}
 use Rattle.network.specs.Mask.{mask}
 use Rattle.network.proofs.Booleans.{ltb-yes}
+use Rattle.network.proofs.MachineLaws.{one-shifted}
 use Rattle.network.proofs.MaskLaws.{mask-cong, mask-full, mask-first}
 use Rattle.plan.specs.Plan.{listed}
 
@@ -29,8 +30,7 @@ pub record FirstPoints (n : ℕ) : Type 0 where
 pub first-points : (n : ℕ) → n < 8 → FirstPoints n
 first-points n h =
     let p = pow-pos n in
-    let q : 2 ^ n < 2 ^ 8 = pow-lt h in
-    let e : 1 * 2 ^ n % 256 ≡ 2 ^ n = omega arith in
+    let e = one-shifted n h in
     record { some = omega arith; is = rw e (sym (mask-first n 8 (omega arith) ∙ mask-full n)) }
 
 -- ---- an array filled from the front

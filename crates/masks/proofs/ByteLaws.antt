@@ -13,6 +13,7 @@ use lib.Count.{trailingZeros}
 use Rattle.network.specs.Mask.{bit, count, firstBelow, submask}
 use Rattle.network.proofs.Booleans.{by-test, clash, both-ways, ltb-yes, ltb-is, eqb-yes, eqb-is, differs}
 use Rattle.network.proofs.BelowLaws.{count-le}
+use Rattle.network.proofs.MachineLaws.{one-shifted}
 use Rattle.network.proofs.MaskLaws.{bit-above, bits-lt}
 
 -- a byte has at most 8 members, so 16 bits hold the number of its submasks
@@ -75,11 +76,8 @@ pub lowest-byte : (m k t : ℕ) → t ≡ firstBelow 8 (bit m) → 0 < m → m <
 lowest-byte m k t e p h =
     let r : Parted 8 m k (2 ^ t) = rw e (parted 8 m k p h) in
     let l = r .part in
-    let q : 1 * 2 ^ t % 256 ≡ 2 ^ t = omega arith in
-    record {
-      small = by-cases (decLt t 8) (λ lt. lt) (λ ge. let g = pow-mono {i = 8} {j = t} (omega arith) in absurd (omega arith));
-      parted = rw q r;
-    }
+    let small : t < 8 = by-cases (decLt t 8) (λ lt. lt) (λ ge. let g = pow-mono {i = 8} {j = t} (omega arith) in absurd (omega arith)) in
+    record { small = small; parted = rw (one-shifted t small) r }
 
 -- ---- masks of the first n letters
 

@@ -246,3 +246,21 @@ pub sum-cong : (n : ℕ) (f g : ℕ → ℕ) → ((k : ℕ) → k < n → f k �
 unfolding sumBelow
 sum-cong zero f g h = refl
 sum-cong (suc n) f g h = rw (h n (omega arith), sum-cong n f g (λ k lt. h k (omega arith)))
+
+pub sum-mono : (n : ℕ) (f g : ℕ → ℕ) → ((k : ℕ) → k < n → f k ≤ g k) → sumBelow n f ≤ sumBelow n g
+unfolding sumBelow
+sum-mono zero f g h = omega arith
+sum-mono (suc n) f g h = let r = sum-mono n f g (λ k lt. h k (omega arith)) in let q = h n (omega arith) in omega arith
+
+-- .. and the same where the sums are
+pub sum-same :
+    (n : ℕ) (f g : ℕ → ℕ) → ((k : ℕ) → k < n → f k ≤ g k) → sumBelow n g ≤ sumBelow n f → (k : ℕ) → k < n → f k ≡ g k
+unfolding sumBelow
+sum-same zero f g h t k lt = absurd (omega arith)
+sum-same (suc n) f g h t k lt =
+    let below : (i : ℕ) → i < n → f i ≤ g i = λ i l. h i (omega arith) in
+    let rest = sum-mono n f g below in
+    let last = h n (omega arith) in
+    by-cases (decLt k n)
+    (sum-same n f g below (omega arith) k)
+    (λ ge. let e : k ≡ n = omega arith in rw e (omega arith))

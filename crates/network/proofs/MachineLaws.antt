@@ -10,6 +10,7 @@ use native.Mathlib.Nat.{pow-suc, div-div-eq-div-mul}
 use lib.Dec.{eqb}
 use lib.Bits.{bitAnd, bitOr, bitXor, differ, and-step, or-step, xor-step, and-le-l, or-lt}
 use lib.Count.{ones, onesIn, ones-step}
+use lib.Pow.{pow-lt}
 use Rattle.network.specs.Mask.{bit, digit, mask, count}
 use Rattle.network.proofs.Booleans.{by-test, and-left, and-right, and-make, both-ways, eqb-yes, eqb-is, differs}
 use Rattle.network.proofs.MaskLaws.{bit-mask, bit-mask-above, bits-ext, mask-is}
@@ -125,6 +126,10 @@ bit-shift zero m = let e : m / 2 ^ 0 ≡ m = omega arith in rw e
 bit-shift (suc i) m =
     let e : m / 2 / 2 ^ i ≡ m / 2 ^ suc i = div-div-eq-div-mul m 2 (2 ^ i) ∙ ap (λ (x : ℕ). m / x) (let q = pow-suc 2 i in omega arith) in
     bit-shift i (m / 2) ∙ rw e
+
+-- the byte with one bit, as the machine shifts it
+pub one-shifted : (i : ℕ) → i < 8 → 1 * 2 ^ i % 256 ≡ 2 ^ i
+one-shifted i h = let q : 2 ^ i < 2 ^ 8 = pow-lt h in omega arith
 
 -- ---- count of ones
 

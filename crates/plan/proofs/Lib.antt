@@ -2,6 +2,7 @@
 pub mod SliceLaws
 pub mod LetterLaws
 pub mod RefusalLaws
+pub mod AnswerLaws
 pub mod PlanLaws
 pub mod OutcomeLaws
 pub mod Cases

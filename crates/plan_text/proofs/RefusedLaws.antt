@@ -13,7 +13,8 @@ use Rattle.plan.specs.Answer.{unless, Answer, answered}
 use Rattle.plan.specs.Plan.{zeroPlan}
 use Rattle.frame.specs.Frame.{frameLength}
 use Rattle.frame.specs.Texts.{frameFault, atEnd}
-use Rattle.frame.proofs.RunLaws.{unless-of, frame-fault-of, ZeroBeside, answered-fault, answered-zero, then-each, run-each}
+use Rattle.plan.proofs.AnswerLaws.{unless-of, ZeroBeside, answered-fault, answered-zero}
+use Rattle.frame.proofs.RunLaws.{frame-fault-of, then-each, run-each}
 use Rattle.plan_text.specs.ReadPlan.{readHead, readLetter, readConstraint, readConstraints, readPlan}
 
 -- none of the numbers past 4, and zeros beside a fault

@@ -21,9 +21,10 @@ use Rattle.frame.specs.declared.Written.{Written}
 use Rattle.frame.specs.declared.Written.the-variants as written
 use Rattle.frame.specs.Frame.{frameLength}
 use Rattle.frame.specs.Texts.{framesFrom, atEnd, writtenAnswer}
-use Rattle.frame.proofs.RunLaws.{answered-fine, filled-is}
+use Rattle.plan.proofs.AnswerLaws.{answered-fine, answered-refused}
+use Rattle.frame.proofs.RunLaws.{filled-is}
 use Rattle.plan.proofs.SliceLaws.{rest-is}
-use Rattle.frame.proofs.ReadingLaws.{answered-refused, frames-on}
+use Rattle.frame.proofs.ReadingLaws.{frames-on}
 use Rattle.frame.proofs.WritingLaws.{sets-append, join-next, write-refused, write-short, write-done}
 use Rattle.tree.specs.declared.Node.{Node}
 use Rattle.tree.specs.Nodes.{nodeCount, mostBytes, legalLength, nodeBytes, nodeAt}

@@ -20,7 +20,8 @@ use Rattle.plan.specs.Plan.{listed}
 use Rattle.frame.specs.Frame.{frameLength, valueAt, whole}
 use Rattle.frame.specs.Texts.{frameFault, atEnd}
 use Rattle.frame.proofs.FrameLaws.{Bytes, bytes, bytes-append, value-back, whole-back, frame-behind, whole-said}
-use Rattle.frame.proofs.RunLaws.{unless-of, frame-fault-of, then-each, run-each, frame-read, frame-read-is, at-end, at-end-is, then-goes, then-fine, run-back, run-invariant}
+use Rattle.plan.proofs.AnswerLaws.{unless-of}
+use Rattle.frame.proofs.RunLaws.{frame-fault-of, then-each, run-each, frame-read, frame-read-is, at-end, at-end-is, then-goes, then-fine, run-back, run-invariant}
 use Rattle.tree.specs.Nodes.{nodeCount, mostNodes, mostBytes, legalLength, nodeBytes, nodeAt}
 use Rattle.tree.proofs.NodeLaws.{nodes-length, node-of-bytes, bytes-of-nodes, legal-is, legal-make}
 use Rattle.tree_text.specs.TreeText.{treeHeadText, nodeText, treeText, writeTree, readTree, readTreeHead, readNode, readBehind, readNodes, nodeIn, bytesIn}

@@ -22,14 +22,15 @@ use Rattle.judge.specs.Judge.{planFault}
 use Rattle.plan.specs.WellFormed.{WellFormed}
 use Rattle.masks.proofs.ByteLaws.{says-among}
 use Rattle.judge.proofs.WellFormedLaws.{fine-exactly}
+use Rattle.plan.proofs.AnswerLaws.{first-refused, answered-fault, answered-fine, answered-refused}
 use Rattle.plan.proofs.PlanTheorems.{is-network}
-use Rattle.plan.proofs.RefusalLaws.{refusal-one-number, no-refusal, some-number}
+use Rattle.plan.proofs.RefusalLaws.{refusal-one-number, no-refusal}
 use Rattle.verdict.specs.declared.Found.{Found}
 use Rattle.verdict.specs.declared.Found.the-variants as found
 use Rattle.verdict.specs.declared.Verdict.{Verdict}
 use Rattle.verdict.specs.declared.screen.Screened.{Screened}
 use Rattle.verdict.specs.declared.screen.Screened.the-variants as screen
-use Rattle.verdict.specs.Verdict.{Fixed, verdictOf, verdictFault, leastSchedule, saying, verdictAnswer, passes, screened, screenAnswer}
+use Rattle.verdict.specs.Verdict.{Fixed, none, verdictOf, verdictFault, leastSchedule, saying, verdictAnswer, passes, screened, screenAnswer}
 use Rattle.verdict.proofs.LeastLaws.{EightSlots, none-eight, verdict-eight, Decides, decides-yes, verdict-decides}
 
 -- ---- what a call says where it answers a
@@ -108,8 +109,8 @@ module _ (p : Plan) where
   -- the faults in their order, and what is said where there is none
   module _ (m : ℕ) where
     pub refused-plan : (r : Refusal) → refusalNumber r ≡ planFault p → saying (found.Refused r) (replicate 8 0) ≡ leastSchedule p m
-    unfolding leastSchedule verdictFault first answered
-    refused-plan r e = rw (← e) (simp (some-number r))
+    unfolding leastSchedule verdictFault
+    refused-plan r e = rw (← e, first-refused) (answered-refused none (verdictOf (networkOf p) (bit m)) r)
 
     verdict-fault : 0 ≡ planFault p → (b : Bool) → ltb m (2 ^ p .letters) ≡ b → verdictFault p m ≡ unless b refusal.Mask
     unfolding verdictFault first
@@ -117,20 +118,20 @@ module _ (p : Plan) where
 
     pub refused-mask :
         0 ≡ planFault p → ltb m (2 ^ p .letters) ≡ false → saying (found.Refused refusal.Mask) (replicate 8 0) ≡ leastSchedule p m
-    unfolding leastSchedule unless answered
-    refused-mask e z = rw (verdict-fault e false z)
+    unfolding leastSchedule unless
+    refused-mask e z = rw (verdict-fault e false z) (answered-refused none (verdictOf (networkOf p) (bit m)) refusal.Mask)
 
     pub decided : 0 ≡ planFault p → ltb m (2 ^ p .letters) ≡ true → fine (verdictOf (networkOf p) (bit m)) ≡ leastSchedule p m
-    unfolding leastSchedule unless answered
-    decided e y = rw (verdict-fault e true y)
+    unfolding leastSchedule unless
+    decided e y = sym (answered-fine none (verdictFault p m) (verdictOf (networkOf p) (bit m)) (verdict-fault e true y))
 
   pub screen-refused : (r : Refusal) → refusalNumber r ≡ planFault p → screenAnswer (screen.Refused r) ≡ screened p
-  unfolding screened answered
-  screen-refused r e = rw (← e, some-number r)
+  unfolding screened
+  screen-refused r e = rw (← e) (answered-refused false (passes p) r)
 
   pub screen-decided : 0 ≡ planFault p → (b : Bool) → b ≡ passes p → fine b ≡ screened p
-  unfolding screened answered
-  screen-decided e b same = rw (← e, same)
+  unfolding screened
+  screen-decided e b same = rw same (sym (answered-fine false (planFault p) (passes p) (sym e)))
 
   -- ---- of a well-formed plan
 
@@ -166,8 +167,8 @@ module _ (p : Plan) where
   fine-screen wf = sym (screen-decided (no-fault wf) (passes p) refl)
 
   pub screen-plan-fault : screened p .fault ≡ planFault p
-  unfolding screened answered
-  screen-plan-fault = refl
+  unfolding screened
+  screen-plan-fault = answered-fault false (planFault p) (passes p)
 
   pub passes-exactly : WellFormed p → (passes p ≡ true) ↔ PassesScreen (networkOf p)
   unfolding passes

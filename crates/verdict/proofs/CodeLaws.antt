@@ -2,11 +2,10 @@
 use mathlib.Core.Path.{_≡_, refl, sym, ap, _∙_}
 use mathlib.Core.Bool.{Bool, true, false}
 use mathlib.Core.List.{List}
-use Prim.Native.Nat.{ℕ, suc, _+_, _-_, _*_, _%_, _^_, _≤_, _<_}
+use Prim.Native.Nat.{ℕ, suc, _+_, _-_, _*_, _≤_, _<_}
 use native.Mathlib.Omega.{arith}
 use native.Mathlib.Numerals.{add-one}
 use lib.Dec.{eqb}
-use lib.Pow.{pow-lt}
 use lib.ListN.{length, replicate}
 use lib.Seq.{ext-getD}
 use Rattle.network.specs.Mask.{allBelow}
@@ -59,11 +58,11 @@ module _ (cap : ℕ) (net : Network) (s : Scenario) where
 
     pub climbing-rests : allBelow 8 (alike slots next) ≡ true → slots ≡ leastSlots cap net s
     climbing-rests t =
-        rests-at cap net s (c .rounds) slots (c .raising) (total-capped cap slots (c .long) (c .capped)) (c .way)
+        rests-at cap net s (c .rounds) slots (c .raising) (total-capped cap slots (c .capped)) (c .way)
         (sym e ∙ sym (same-is slots next (c .long) next-long t))
 
     higher : allBelow 8 (alike slots next) ≡ false → total slots < total next
-    higher z = rw e (rises cap net s slots (rw e at (same-not slots next z)))
+    higher z = rw e (rises cap net s slots (c .long) (rw e at (same-not slots next z)))
 
     pub climbing-next : allBelow 8 (alike slots next) ≡ false → Climbing next
     climbing-next z =
@@ -79,7 +78,7 @@ module _ (cap : ℕ) (net : Network) (s : Scenario) where
 
     -- what can still rise
     pub less-to-rise : allBelow 8 (alike slots next) ≡ false → 8 * cap - total next < 8 * cap - total slots
-    less-to-rise z = let up = higher z in let top = total-capped cap next next-long next-capped in omega arith
+    less-to-rise z = let up = higher z in let top = total-capped cap next next-capped in omega arith
 
 -- ---- the verdict
 
@@ -101,11 +100,3 @@ module _ (net : Network) (s : Scenario) (slots : List ℕ) (e : slots ≡ leastS
       by-test (withinHorizon net slots)
       (λ t. t ∙ ap (λ (f : Fixed). f .scheduled) (scheduled t))
       (λ z. z ∙ ap (λ (f : Fixed). f .scheduled) (not-scheduled z))
-
--- ---- the settings of all letters, as the code shifts them
-
-pub settings-are : (n : ℕ) → n ≤ 6 → 1 * 2 ^ n % 256 ≡ 2 ^ n
-settings-are n h =
-    let small : n < 8 = omega arith in
-    let q : 2 ^ n < 2 ^ 8 = pow-lt small in
-    omega arith

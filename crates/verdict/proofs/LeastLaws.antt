@@ -53,17 +53,22 @@ module _ (cap : ℕ) (net : Network) (s : Scenario) where
 
   -- ---- a round that changes something raises the total
 
-  rests-or-rises : (slots : List ℕ) → (raised cap net s slots ≡ slots) ⊎ (total slots < total (raised cap net s slots))
-  rests-or-rises slots =
+  rests-or-rises :
+      (slots : List ℕ) → length slots ≡ 8 → (raised cap net s slots ≡ slots) ⊎ (total slots < total (raised cap net s slots))
+  rests-or-rises slots long =
       by-cases (decLt (total slots) (total (raised cap net s slots)))
       inr
-      (λ ge. inl (sym (total-same slots (raised cap net s slots) (sym (raised-length cap net s slots)) (raised-above cap net s slots)
+      (λ ge. inl (sym (total-same slots (raised cap net s slots) long (raised-length cap net s slots ∙ long) (raised-above cap net s slots)
       (omega arith))))
 
-  pub rises : (slots : List ℕ) → (raised cap net s slots ≡ slots → ⊥) → total slots < total (raised cap net s slots)
-  rises slots n = ⊎-elim (λ e. absurd (n e)) (λ lt. lt) (rests-or-rises slots)
+  pub rises :
+      (slots : List ℕ) → length slots ≡ 8 → (raised cap net s slots ≡ slots → ⊥) → total slots < total (raised cap net s slots)
+  rises slots long n = ⊎-elim (λ e. absurd (n e)) (λ lt. lt) (rests-or-rises slots long)
 
   -- ---- from all zeros
+
+  climbed-long : (n : ℕ) → length (climbed n cap net s (replicate 8 0)) ≡ 8
+  climbed-long n = climbed-keeps (λ slots. length slots ≡ 8) (λ slots l. raised-length cap net s slots ∙ l) n (replicate 8 0) refl
 
   -- it rests, or each of n rounds raised the total
   rests-or-high :
@@ -73,7 +78,7 @@ module _ (cap : ℕ) (net : Network) (s : Scenario) where
       let now : List ℕ = climbed n cap net s (replicate 8 0) in
       rw (climbed-next n (replicate 8 0)) (⊎-elim
       (λ e. inl (ap (raised cap net s) e))
-      (λ high. ⊎-elim (λ e. inl (ap (raised cap net s) e)) (λ lt. inr (omega arith)) (rests-or-rises now))
+      (λ high. ⊎-elim (λ e. inl (ap (raised cap net s) e)) (λ lt. inr (omega arith)) (rests-or-rises now (climbed-long n)))
       (rests-or-high n))
 
   -- Where it rests it is the least fixpoint.
@@ -148,7 +153,7 @@ pub verdict-eight : (net : Network) (s : Scenario) → EightSlots (verdictOf net
 unfolding verdictOf fixed leastSlots
 verdict-eight net s =
     let cap : ℕ = suc (net .horizon) in
-    let long = climbed-keeps cap net s (λ slots. length slots ≡ 8) (λ slots l. raised-length cap net s slots ∙ l) (8 * cap) _ refl in
+    let long = climbed-long cap net s (8 * cap) in
     by-test (withinHorizon net (leastSlots cap net s))
     (λ y. rw y (record { long = long; zeros = λ z. clash refl z }))
     (λ z. rw z none-eight)
@@ -179,7 +184,7 @@ module _ (net : Network) (is-net : IsNetwork net) (some : 1 ≤ net .points) (fe
       let w = least-on-the-way cap net s is-net in
       ⊎-elim
       (λ e. e)
-      (λ high. let top : slotsIn least 0 ≡ cap = total-top cap least (w .long) (w .capped) high 0 (omega arith) in
+      (λ high. let top : slotsIn least 0 ≡ cap = total-top cap least (w .capped) high 0 (omega arith) in
       let early = within-exactly net least .0 t 0 some in
       absurd (omega arith))
       (rests-or-high cap net s (8 * cap))

@@ -1,58 +1,29 @@
--- The total of a list of slots, by which a climb is measured, and its laws. Only the checker need believe this file.
-use mathlib.Core.Path.{_≡_, refl}
-use mathlib.Core.List.{List, [], _∷_}
-use Prim.Native.Nat.{ℕ, zero, suc, _+_, _*_, _≤_, _<_}
+-- Laws of the total of eight slots, by which a climb is measured. Only the checker need believe this file.
+use mathlib.Core.Path.{_≡_, sym, _∙_}
+use mathlib.Core.List.{List}
+use Prim.Native.Nat.{ℕ, _*_, _≤_, _<_}
 use native.Mathlib.Omega.{arith}
+use native.Mathlib.Nat.{le-refl, le-trans}
 use lib.ListN.{length}
+use lib.Seq.{ext-getD}
+use Rattle.network.specs.Mask.{sumBelow}
 use Rattle.network.specs.Network.{slotsIn}
+use Rattle.network.proofs.BelowLaws.{sum-le, sum-same}
 
-unfoldable pub total : List ℕ → ℕ
-total [] = 0
-total (x ∷ xs) = x + total xs
+abbrev pub total : List ℕ → ℕ
+total slots = sumBelow 8 (slotsIn slots)
 
--- entry by entry at most
-abbrev pub Under : List ℕ → List ℕ → Type 0
-Under xs ys = (x : ℕ) → slotsIn xs x ≤ slotsIn ys x
+-- slots no later than others, and with the same total, are the same
+pub total-same :
+    (a b : List ℕ) → length a ≡ 8 → length b ≡ 8 → ((x : ℕ) → slotsIn a x ≤ slotsIn b x) → total b ≤ total a → a ≡ b
+total-same a b long-a long-b h t =
+    ext-getD 0 a b (long-a ∙ sym long-b) (λ x lt. sum-same 8 (slotsIn a) (slotsIn b) (λ k l. h k) t x (omega arith))
 
-pub total-le : (xs ys : List ℕ) → length xs ≡ length ys → Under xs ys → total xs ≤ total ys
-unfolding total
-total-le [] [] l h = omega arith
-total-le [] (y ∷ ys) l h = omega arith
-total-le (x ∷ xs) [] l h = absurd (omega arith)
-total-le (x ∷ xs) (y ∷ ys) l h =
-    let here = h zero in let rest = total-le xs ys (omega arith) (λ i. h (suc i)) in omega arith
-
--- .. and the same where the totals are
-pub total-same : (xs ys : List ℕ) → length xs ≡ length ys → Under xs ys → total ys ≤ total xs → xs ≡ ys
-unfolding total
-total-same [] [] l h t = refl
-total-same [] (y ∷ ys) l h t = absurd (omega arith)
-total-same (x ∷ xs) [] l h t = absurd (omega arith)
-total-same (x ∷ xs) (y ∷ ys) l h t =
-    let here = h zero in
-    let long : length xs ≡ length ys = omega arith in
-    let rest = total-le xs ys long (λ i. h (suc i)) in
-    let e : x ≡ y = omega arith in
-    rw (e, total-same xs ys long (λ i. h (suc i)) (omega arith))
-
-module _ (cap : ℕ) where
-  total-under : (xs : List ℕ) → ((x : ℕ) → slotsIn xs x ≤ cap) → total xs ≤ length xs * cap
-  unfolding total
-  total-under [] h = omega arith
-  total-under (x ∷ xs) h = let here = h zero in let rest = total-under xs (λ i. h (suc i)) in omega arith
-
-  total-full :
-      (xs : List ℕ) → ((x : ℕ) → slotsIn xs x ≤ cap) → length xs * cap ≤ total xs → (x : ℕ) → x < length xs → slotsIn xs x ≡ cap
-  unfolding total
-  total-full [] h t x lt = absurd (omega arith)
-  total-full (y ∷ ys) h t zero lt = let here = h zero in let rest = total-under ys (λ i. h (suc i)) in omega arith
-  total-full (y ∷ ys) h t (suc x) lt = let here = h zero in total-full ys (λ i. h (suc i)) (omega arith) x (omega arith)
-
--- eight slots at a cap or before it
-module _ (cap : ℕ) (slots : List ℕ) (long : length slots ≡ 8) (capped : (x : ℕ) → slotsIn slots x ≤ cap) where
+module _ (cap : ℕ) (slots : List ℕ) (capped : (x : ℕ) → slotsIn slots x ≤ cap) where
   pub total-capped : total slots ≤ 8 * cap
-  total-capped = rw long at (total-under cap slots capped)
+  total-capped = sum-le 8 (slotsIn slots) cap (λ k lt. capped k)
 
   -- all of them at the cap
   pub total-top : 8 * cap ≤ total slots → (x : ℕ) → x < 8 → slotsIn slots x ≡ cap
-  total-top t x lt = total-full cap slots capped (rw long t) x (rw long lt)
+  total-top t =
+      sum-same 8 (slotsIn slots) (λ k. cap) (λ k lt. capped k) (le-trans (sum-le 8 (λ k. cap) cap (λ k lt. le-refl cap)) t)

@@ -2,8 +2,7 @@
 use mathlib.Core.Path.{refl, sym}
 use borrow.Author.Needs.{needs}
 use Rattle.plan.specs.Plan.{zeroPlan}
-use Rattle.frame.proofs.RunLaws.{answered-fine}
-use Rattle.frame.proofs.ReadingLaws.{answered-refused}
+use Rattle.plan.proofs.AnswerLaws.{answered-fine, answered-refused}
 use Rattle.plan_text.proofs.reading.answered_plan.Statement.{statement}
 use Rattle.plan_text.proofs.reading.answered_plan.Tie as tie
 

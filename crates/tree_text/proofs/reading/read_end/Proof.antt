@@ -4,8 +4,7 @@ use borrow.Author.Tests.{eq-eqb, ne-eqb}
 use Rattle.plan.specs.declared.Refusal.the-variants as refusal
 use Rattle.plan.specs.Answer.{unless}
 use Rattle.frame.specs.Texts.{atEnd}
-use Rattle.frame.proofs.RunLaws.{answered-fine}
-use Rattle.frame.proofs.ReadingLaws.{answered-refused}
+use Rattle.plan.proofs.AnswerLaws.{answered-fine, answered-refused}
 use Rattle.tree_text.proofs.reading.read_end.Statement.{statement}
 use Rattle.tree_text.proofs.reading.read_end.Tie as tie
 

@@ -6,11 +6,11 @@ use native.Mathlib.Omega.{arith}
 use borrow.Author.Needs.{needs}
 use Rattle.network.specs.Mask.{bit, allBelow}
 use Rattle.network.proofs.Booleans.{not-true, not-false}
+use Rattle.network.proofs.MachineLaws.{one-shifted}
 use Rattle.network.proofs.BelowLaws.{all-start, all-next, all-fails}
 use Rattle.plan.specs.declared.Plan.{Plan}
 use Rattle.plan.specs.Plan.{networkOf}
 use Rattle.verdict.specs.Verdict.{verdictOf, passes}
-use Rattle.verdict.proofs.CodeLaws.{settings-are}
 use Rattle.verdict.proofs.screen.all_schedulable.Statement.{statement}
 use Rattle.verdict.proofs.screen.all_schedulable.Tie as tie
 
@@ -36,7 +36,7 @@ returns : tie.Need-returns Inv-loop μ-loop
 unfolding passes
 returns c =
     let a = c .before .before .before .before .before .args in
-    let e = settings-are (a .plan .letters) (c .before .before .before .before .before .pre .1) in
+    let e = one-shifted (a .plan .letters) (omega (arith, c .before .before .before .before .before .pre .1)) in
     sym (all-fails (has-schedule (a .plan)) _ (c .before .before .before .loop .m) (omega arith)
     (sym (c .before .schedulable .ensures) ∙ not-true (c .before .schedulable .result) (c .if1 .taken)))
 
@@ -58,7 +58,7 @@ returns-2 : tie.Need-returns-2 Inv-loop μ-loop
 unfolding passes
 returns-2 c =
     let a = c .before .before .before .args in
-    let e = settings-are (a .plan .letters) (c .before .before .before .pre .1) in
+    let e = one-shifted (a .plan .letters) (omega (arith, c .before .before .before .pre .1)) in
     let end : c .before .loop .m ≡ 2 ^ a .plan .letters = omega arith in
     sym (rw end at (c .before .loop .inv .1))
 
