@@ -11,11 +11,10 @@ use native.Mathlib.Numerals.{add-one}
 use native.Mathlib.Omega.{arith}
 use borrow.Author.Tests.{lt-leb}
 use lib.ListN.{length}
-use Rattle.network.specs.Mask.{bit, count, submask}
+use Rattle.network.specs.Mask.{bit, count}
 use Rattle.network.specs.Network.{keeps, slotsIn}
-use Rattle.network.specs.Game.{start, Legal, Outcome, outcomes, outcomeAt, after}
+use Rattle.network.specs.Game.{start, Legal, outcomes, outcomeAt, after}
 use Rattle.network.proofs.Booleans.{eqb-yes, eqb-no}
-use Rattle.network.proofs.GameLaws.{outcome-at-is}
 use Rattle.plan.specs.declared.Plan.{Plan}
 use Rattle.plan.specs.declared.Refusal.{Refusal}
 use Rattle.plan.specs.declared.Refusal.the-variants as refusal
@@ -25,15 +24,16 @@ use Rattle.plan.specs.Plan.{networkOf}
 use Rattle.plan.specs.Letters.{heardBy}
 use Rattle.plan.specs.WellFormed.{WellFormed}
 use Rattle.plan.proofs.RefusalLaws.{some-number}
-use Rattle.plan.proofs.OutcomeLaws.{submasks-are-outcomes, numbered-is-outcome}
+use Rattle.plan.proofs.OutcomeLaws.{submasks-are-outcomes}
 use Rattle.judge.specs.Judge.{planFault}
 use Rattle.tree.specs.declared.Node.{Node}
 use Rattle.tree.specs.Nodes.{legalLength, nodeCount, nodeAt, fromNode}
 use Rattle.tree.specs.Trees.{moveOf}
 use Rattle.game.specs.declared.Position.{Position}
-use Rattle.game.specs.Position.{stateOf, Proper, isLegal, positionAfter}
+use Rattle.game.specs.Position.{stateOf, Proper, isLegal}
 use Rattle.game.proofs.LegalLaws.{legal-exactly}
-use Rattle.game.proofs.PositionLaws.{inside-is, over-is-zero, kept-is, after-is, after-proper, fewer}
+use Rattle.game.proofs.PositionLaws.{inside-is, over-is-zero, kept-is}
+use Rattle.game.proofs.NextLaws.{next, next-is, next-proper, next-fewer}
 use Rattle.checker.specs.declared.Checked.{Checked}
 use Rattle.checker.specs.declared.Checked.the-variants as checked
 use Rattle.checker.specs.Checker.{withSubtrees, nodeAndBelow, subtreeAt, treeFault, checkFault}
@@ -64,10 +64,7 @@ module _ (sub : ℕ → List ℕ → Checked) (bs : List ℕ) (k n : ℕ) (b : B
 
 -- ---- at a position
 
--- the position after outcome number k of a move, and what is found at the place of its subtree
-abbrev pub next : Plan → Position → Node → ℕ → Position
-next p at v k = positionAfter at v (submask 8 (bit (heardBy p (v .points))) k)
-
+-- what is found at the place of the subtree of outcome number k
 abbrev pub below : Plan → Position → Node → ℕ → List ℕ → Checked
 below p at v k = subtreeAt p (stateOf p (next p at v k))
 
@@ -119,14 +116,6 @@ module _ (p : Plan) (wf : WellFormed p) (at : Position) (ok : Proper p at) (bs :
       is-legal : Legal (networkOf p) (stateOf p at) (moveOf v)
       is-legal = legal-exactly p wf (stateOf p at) (inside-is p wf at ok) (moveOf v) .0 legal
 
-      outcome-is : (k : ℕ) → Outcome (networkOf p) (moveOf v) (submask 8 (bit (heardBy p (v .points))) k)
-      outcome-is k = rw (numbered-is-outcome p (wf .letters) (moveOf v) k) (outcome-at-is (networkOf p) (moveOf v) k)
-
-      next-is : (k : ℕ) → stateOf p (next p at v k) ≡ after (networkOf p) (stateOf p at) (moveOf v) (outcomeAt (networkOf p) (moveOf v) k)
-      next-is k =
-          after-is p wf at v _ ok is-legal (outcome-is k) long
-          ∙ ap (after (networkOf p) (stateOf p at) (moveOf v)) (numbered-is-outcome p (wf .letters) (moveOf v) k)
-
       pub at-node : AtNode p at bs v
       at-node =
           record {
@@ -135,9 +124,9 @@ module _ (p : Plan) (wf : WellFormed p) (at : Position) (ok : Proper p at) (bs :
                 (is-read whole) legal
                 ∙ rw (submasks-are-outcomes p (wf .letters) (moveOf v))
                 (ap (λ (sub : ℕ → List ℕ → Checked). withSubtrees sub bs (outcomes (networkOf p) (moveOf v)))
-                (λ i k. subtreeAt p (sym (next-is k) i)));
-            proper = λ k. after-proper p wf at v _ ok is-legal (outcome-is k);
-            fewer = λ k. fewer p wf at v (submask 8 (bit (heardBy p (v .points))) k) ok is-legal;
+                (λ i k. subtreeAt p (sym (next-is p wf at ok v is-legal k long) i)));
+            proper = λ k. next-proper p wf at ok v is-legal k;
+            fewer = λ k. next-fewer p wf at ok v is-legal k;
             fit = λ k cs. fits p (stateOf p (next p at v k)) cs;
           }
 

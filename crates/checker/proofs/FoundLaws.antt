@@ -11,7 +11,7 @@ use native.Mathlib.Decide.{decLt}
 use lib.Dec.{ltb}
 use lib.ListN.{length, drop}
 use lib.Seq.{drop-at}
-use Rattle.network.specs.Mask.{sumBelow, joinBelow}
+use Rattle.network.specs.Mask.{sumBelow, joinBelow, rank}
 use Rattle.network.specs.Network.{Network}
 use Rattle.network.specs.Game.{State, hears, Legal, outcomes, outcomeAt, after, kept}
 use Rattle.network.specs.Tree.{Tree, done, node, Sound, nodes}
@@ -19,7 +19,7 @@ use Rattle.network.specs.Search.{over}
 use Rattle.network.proofs.Booleans.{by-test, ltb-yes, ltb-no}
 use Rattle.network.proofs.BelowLaws.{sum-cong}
 use Rattle.network.proofs.JoinLaws.{join-cong, join-lengths}
-use Rattle.network.proofs.SubmaskLaws.{rank, rank-submask}
+use Rattle.network.proofs.SubmaskLaws.{rank-submask}
 use Rattle.network.proofs.GameLaws.{Inside, outcome-numbered, after-inside}
 use Rattle.network.proofs.SearchLaws.{over-is}
 use Rattle.plan.specs.declared.Plan.{Plan}

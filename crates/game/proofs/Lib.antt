@@ -2,4 +2,5 @@
 pub mod CodeLaws
 pub mod LegalLaws
 pub mod PositionLaws
+pub mod NextLaws
 pub mod Cases

@@ -9,7 +9,7 @@ use native.Mathlib.Numerals.{add-one}
 use lib.Dec.{ltb}
 use lib.ListN.{length, List·getD-eq-default}
 use Rattle.network.specs.Mask.{bit, mask, count}
-use Rattle.network.specs.Network.{Network, condition, decision, keeps, slotsIn}
+use Rattle.network.specs.Network.{Network, condition, decision, combined, keeps, slotsIn}
 use Rattle.network.specs.Game.{start, hears, settles, Legal, Outcome, after, kept}
 use Rattle.network.specs.Search.{over}
 use Rattle.network.proofs.Booleans.{by-test, clash, and-left, and-right, not-true, ltb-is}
@@ -75,12 +75,17 @@ module _ (p : Plan) (wf : WellFormed p) where
   pub inside-is : (at : Position) → Proper p at → Inside net (stateOf p at)
   inside-is at ok = ok .points-left
 
+  -- the value of a letter is what was heard or decided
+  pub value-is :
+      (at : Position) (l : ℕ) → l < p .letters → bit (at .values) l ≡ combined net (stateOf p at .heard) (stateOf p at .decided) l
+  value-is at l lt =
+      by-test (net .is-decision l)
+      (λ y. rw y (sym (bit-mask (p .letters) _ l lt ∙ rw (decision-of net l lt y))))
+      (λ z. rw z (sym (bit-mask (p .letters) _ l lt ∙ rw (condition-of net l lt z))))
+
   pub kept-is : (at : Position) → keeps net (slotsIn (at .slots)) (bit (at .values)) ≡ kept net (stateOf p at)
   kept-is at =
-      keeps-cong net (network-of-well-formed p wf) (slotsIn (at .slots)) (slotsIn (at .slots)) _ _ (λ x lt. refl)
-      (λ l lt. by-test (net .is-decision l)
-      (λ y. rw y (sym (bit-mask (p .letters) _ l lt ∙ rw (decision-of net l lt y))))
-      (λ z. rw z (sym (bit-mask (p .letters) _ l lt ∙ rw (condition-of net l lt z)))))
+      keeps-cong net (network-of-well-formed p wf) (slotsIn (at .slots)) (slotsIn (at .slots)) _ _ (λ x lt. refl) (value-is at)
 
   pub over-is-zero :
       (at : Position) → Proper p at →

@@ -217,3 +217,12 @@ module _ (p : Plan) where
 
 pub fine-exactly : (p : Plan) → (planFault p ≡ 0) ↔ WellFormed p
 fine-exactly p = (λ e. let r = no-fault-is p e in well-formed p (r .0) (r .1) (r .2), fine p)
+
+-- every other plan has a fault of the head, the letters or the constraints
+pub two-to-four : (p : Plan) → ¬ WellFormed p → (2 ≤ planFault p) × (planFault p ≤ 4)
+two-to-four p n =
+    by-fault p
+    (λ h. let f = head-fault p h in (omega arith, omega arith))
+    (λ h l. let f = letters-fault p h l in (omega arith, omega arith))
+    (λ h l c. let f = constraints-fault p h l c in (omega arith, omega arith))
+    (λ h l c. absurd (n (well-formed p h l c)))

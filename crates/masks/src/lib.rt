@@ -3,7 +3,7 @@ ghost use mathlib.Core.Path.{_≡_};
 ghost use Prim.Native.Nat.{_^_};
 ghost use lib.Dec.{ltb};
 ghost use Rattle.network.specs.Mask.{bit, count, firstBelow, submask};
-ghost use Rattle.masks.specs.Masks.{inside};
+ghost use Rattle.masks.specs.Masks.{inside, nextInside};
 
 // Whether i is a member.
 pub fn has(mask: u8, i: u8) -> bool
@@ -72,4 +72,16 @@ pub fn numbered(set: u8, k: u16) -> u8
         }
     }
     out
+}
+
+// Of the masks inside a set, the one behind this one in their order; 0 behind the last. Adding 1 where every place outside the set is
+// filled carries over those places.
+pub fn next_inside(set: u8, mask: u8) -> u8
+    ensures { λ r. ⌜ r ≡ nextInside set mask ⌝ }
+{
+    let filled = mask | !set;
+    if filled == 255 {
+        return 0;
+    }
+    (filled + 1) & set
 }

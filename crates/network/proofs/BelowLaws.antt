@@ -172,6 +172,11 @@ unfolding count
 count-empty zero = refl
 count-empty (suc n) = let r = count-empty n in omega arith
 
+pub count-full : (n : ℕ) → count n (λ i. true) ≡ n
+unfolding count
+count-full zero = refl
+count-full (suc n) = let e = count-full n in omega arith
+
 pub count-some : (n : ℕ) (f : ℕ → Bool) (i : ℕ) → i < n → f i ≡ true → 0 < count n f
 count-some n f i lt y = let r = count-drop n f (λ j. false) (λ j k e. clash e refl) i lt y refl in omega arith
 

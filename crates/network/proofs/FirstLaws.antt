@@ -1,9 +1,9 @@
 -- Theorem 3: the computed search decides whether the game can be won, and its tree is the only tree of first moves. Only the checker need
 -- believe this file.
 use mathlib.Core.Path.{_≡_, sym, subst}
-use mathlib.Core.Logic.{_↔_, by-cases, inl, inr}
+use mathlib.Core.Logic.{_↔_, _⊎_, inl, inr, ⊎-elim, by-cases}
 use mathlib.Core.Bool.{true, false}
-use Prim.Native.Nat.{ℕ, zero, suc, _≤_}
+use Prim.Native.Nat.{ℕ, zero, suc, _≤_, _<_}
 use native.Mathlib.Omega.{arith}
 use native.Mathlib.Decide.{decLt}
 use Rattle.network.specs.Mask.{bit, count}
@@ -19,6 +19,23 @@ use Rattle.network.proofs.GameLaws.{Inside, not-over, start-inside, aft
 use Rattle.network.proofs.SearchLaws.{over-is, wins-by-is, some-wins, first-wins, first-least}
 use Rattle.network.proofs.TreeStrategy.{wins→consistent}
 use Rattle.network.proofs.StrategyTree.{consistent→won}
+
+by-order : {C : Type 0} (a b : ℕ) → (a < b → C) → (a ≡ b → C) → (b < a → C) → C
+by-order a b f g h = by-cases (decLt a b) f (λ ge. by-cases (decLt b a) h (λ le. g (omega arith)))
+
+-- the order of moves is total
+pub before-cases : (m k : Move) → Before m k ⊎ ((m ≡ k) ⊎ Before k m)
+before-cases m k =
+    by-order (m .slot) (k .slot)
+    (λ l. inl (inl l))
+    (λ t. by-order (m .points) (k .points)
+    (λ l. inl (inr (t, inl l)))
+    (λ q. by-order (m .choices) (k .choices)
+    (λ l. inl (inr (t, inr (q, l))))
+    (λ c. inr (inl (λ i. record { slot = t i; points = q i; choices = c i })))
+    (λ l. inr (inr (inr (sym t, inr (sym q, l))))))
+    (λ l. inr (inr (inr (sym t, inl l)))))
+    (λ l. inr (inr (inl l)))
 
 module _ (net : Network) where
   pub is-not-over : (s : State) (m : Move) → Legal net s m → over net s ≡ false
@@ -93,14 +110,7 @@ module _ (net : Network) where
   -- ---- there is only one tree of first moves, and it wins where the game can be won
 
   same-move : (m k : Move) → ¬ Before m k → ¬ Before k m → m ≡ k
-  same-move m k a b =
-      let t : m .slot ≡ k .slot = by-cases (decLt (m .slot) (k .slot)) (λ l. absurd (a (inl l)))
-      (λ g. by-cases (decLt (k .slot) (m .slot)) (λ l. absurd (b (inl l))) (λ h. omega arith)) in
-      let q : m .points ≡ k .points = by-cases (decLt (m .points) (k .points)) (λ l. absurd (a (inr (t, inl l))))
-      (λ g. by-cases (decLt (k .points) (m .points)) (λ l. absurd (b (inr (sym t, inl l)))) (λ h. omega arith)) in
-      let c : m .choices ≡ k .choices = by-cases (decLt (m .choices) (k .choices)) (λ l. absurd (a (inr (t, inr (q, l)))))
-      (λ g. by-cases (decLt (k .choices) (m .choices)) (λ l. absurd (b (inr (sym t, inr (sym q, l))))) (λ h. omega arith)) in
-      λ i. record { slot = t i; points = q i; choices = c i }
+  same-move m k a b = ⊎-elim (λ l. absurd (a l)) (⊎-elim (λ e. e) (λ l. absurd (b l))) (before-cases m k)
 
   pub first-unique : (t t′ : Tree) (s : State) → FirstMoves net t s → FirstMoves net t′ s → SameTree net t t′
   unfolding FirstMoves SameTree

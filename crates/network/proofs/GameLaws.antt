@@ -2,13 +2,13 @@
 use mathlib.Core.Path.{_≡_, refl, sym, _∙_}
 use mathlib.Core.Bool.{true, false, not, _&&_, and-false}
 use Prim.Native.Nat.{ℕ, suc, _<_}
-use Rattle.network.specs.Mask.{bit, count}
+use Rattle.network.specs.Mask.{bit, count, rank}
 use Rattle.network.specs.Network.{Network, condition, decision}
 use Rattle.network.specs.Game.{State, start, Move, hears, settles, Legal, Outcome, outcomes, outcomeAt, after, Over}
 use Rattle.network.proofs.Booleans.{by-test, clash, and-left, and-right, not-true}
 use Rattle.network.proofs.BelowLaws.{count-drop}
-use Rattle.network.proofs.MaskLaws.{bit-mask, in-mask}
-use Rattle.network.proofs.SubmaskLaws.{rank, rank-lt, submask-rank, in-submask}
+use Rattle.network.proofs.MaskLaws.{bit-zero, bit-mask, in-mask}
+use Rattle.network.proofs.SubmaskLaws.{rank-lt, submask-rank, in-submask}
 use Rattle.network.proofs.NetworkLaws.{condition-lt, decision-lt}
 
 module _ (net : Network) where
@@ -30,6 +30,10 @@ module _ (net : Network) where
   -- where a move is legal, a point is left
   pub not-over : {C : Type 0} (s : State) (m : Move) → Legal net s m → Over net s → C
   not-over s m lg ov = let p = lg .some in clash (lg .not-yet (p .0) (p .2)) (ov (p .0) (p .1))
+
+  -- a legal move performs a point
+  pub some-points : (s : State) (m : Move) → Legal net s m → ¬ (m .points ≡ 0)
+  some-points s m lg e = let p = lg .some in clash (p .2) (rw e (bit-zero (p .0)))
 
   -- a point that is not left is not performed again
   pub not-again : (s : State) (m : Move) → Legal net s m → (x : ℕ) → bit (s .left) x ≡ false → bit (m .points) x ≡ false

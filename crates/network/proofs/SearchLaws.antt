@@ -5,17 +5,17 @@ use mathlib.Core.Logic.{_↔_, inl, inr}
 use mathlib.Core.Bool.{Bool, true}
 use Prim.Native.Nat.{ℕ, zero, suc, _-_, _<_}
 use native.Mathlib.Omega.{arith}
-use Rattle.network.specs.Mask.{bit, anyBelow, firstBelow, submask}
+use Rattle.network.specs.Mask.{bit, anyBelow, firstBelow, submask, rank}
 use Rattle.network.specs.Network.{Network}
 use Rattle.network.specs.Game.{State, Move, settles, Legal, Outcome, outcomes, outcomeAt, after, Over}
 use Rattle.network.specs.FirstMoves.{Before}
 use Rattle.network.specs.Search.{over, slotAt, pointsAt, bare, choicesAt, moveAt, slotCount, pointsCount, choicesCount, winsBy, winsWith, winsIn, firstMove}
 use Rattle.network.proofs.Booleans.{by-test, clash, not-true}
 use Rattle.network.proofs.BelowLaws.{all-at, all-make, any-at, any-make, first-at, before-first}
-use Rattle.network.proofs.MaskLaws.{bit-zero, no-bits}
-use Rattle.network.proofs.SubmaskLaws.{rank, rank-lt, submask-rank, rank-submask, in-submask, submask-rises, submask-order, submask-zero}
+use Rattle.network.proofs.MaskLaws.{no-bits}
+use Rattle.network.proofs.SubmaskLaws.{rank-lt, submask-rank, rank-submask, in-submask, submask-rises, submask-order, submask-zero}
 use Rattle.network.proofs.NetworkLaws.{decision-lt}
-use Rattle.network.proofs.GameLaws.{Inside, settled-decision, outcome-at-is, outcome-numbered}
+use Rattle.network.proofs.GameLaws.{Inside, settled-decision, some-points, outcome-at-is, outcome-numbered}
 
 -- a number that is not 0 has a bit
 pub some-bit : (n m : ℕ) → ((i : ℕ) → bit m i ≡ true → i < n) → 0 < m → (i : ℕ) × (i < n) × (bit m i ≡ true)
@@ -86,10 +86,7 @@ module _ (net : Network) where
       }
     where
       positive : (r : ℕ) → submask (net .points) (bit (s .left)) r ≡ m .points → 0 < r
-      positive zero e =
-          let p = lg .some in
-          let z : m .points ≡ 0 = sym e ∙ submask-zero (net .points) (bit (s .left)) in
-          clash (p .2) (rw z (bit-zero (p .0)))
+      positive zero e = absurd (some-points net s m lg (sym e ∙ submask-zero (net .points) (bit (s .left))))
       positive (suc r) e = omega arith
 
   -- ---- the first winning move, where W says from which states the agent wins

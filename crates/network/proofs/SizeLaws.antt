@@ -115,7 +115,7 @@ module _ (net : Network) (wf : IsNetwork net) where
         (omega arith) points-split conditions-split heard-le some-performed h
 
   -- all outcomes of a move leave the same room
-  room-same : (s : State) (m : Move) (o o′ : ℕ) → room net (after net s m o) ≡ room net (after net s m o′)
+  pub room-same : (s : State) (m : Move) (o o′ : ℕ) → room net (after net s m o) ≡ room net (after net s m o′)
   unfolding room after
   room-same s m o o′ = refl
 

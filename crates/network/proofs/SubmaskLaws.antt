@@ -1,24 +1,19 @@
 -- Laws of the numbering of masks: each mask inside a set has one number, and the numbering rises. Only the checker need believe this file.
 use mathlib.Core.Path.{_≡_, refl, sym, _∙_}
 use mathlib.Core.Logic.{by-cases}
-use mathlib.Core.Bool.{Bool, true, false, cond}
+use mathlib.Core.Bool.{Bool, true, false}
 use Prim.Native.Nat.{ℕ, zero, suc, _+_, _*_, _/_, _%_, _^_, _≤_, _<_}
 use native.Mathlib.Omega.{arith}
 use native.Mathlib.Nat.{not-suc-le-zero, pow-suc, zero-add}
 use native.Mathlib.Decide.{decLt}
 use lib.Dec.{eqb}
-use Rattle.network.specs.Mask.{bit, mask, count, submask}
+use Rattle.network.specs.Mask.{bit, mask, count, submask, rank}
 use Rattle.network.proofs.Booleans.{by-test, clash, differs, eqb-is}
 use Rattle.network.proofs.BelowLaws.{count-cong, count-empty}
 use Rattle.network.proofs.MaskLaws.{bit-zero, no-bits, low-digit, high-digits}
 
 double : (c : ℕ) → 2 ^ (1 + c) ≡ 2 * 2 ^ c
 double c = let e : 1 + c ≡ suc c = omega arith in rw e (rw pow-suc (omega arith))
-
--- the number of a mask: its digits at the members of the set
-unfoldable pub rank : ℕ → (ℕ → Bool) → ℕ → ℕ
-rank zero f m = 0
-rank (suc n) f m = cond (f zero) (m % 2 + 2 * rank n (λ i. f (suc i)) (m / 2)) (rank n (λ i. f (suc i)) (m / 2))
 
 pub rank-lt : (n : ℕ) (f : ℕ → Bool) (m : ℕ) → rank n f m < 2 ^ count n f
 unfolding rank count
@@ -106,6 +101,19 @@ submask-zero zero f = refl
 submask-zero (suc n) f =
     let r = submask-zero n (λ i. f (suc i)) in
     by-test (f zero) (λ y. rw y (rw r)) (λ z. rw z (rw r))
+
+-- behind the last number the members of the set no longer show
+pub submask-end : (n : ℕ) (f : ℕ → Bool) → submask n f (2 ^ count n f) ≡ 0
+unfolding submask count
+submask-end zero f = refl
+submask-end (suc n) f =
+    let r = submask-end n (λ i. f (suc i)) in
+    by-test (f zero)
+    (λ y. let w = 2 ^ count n (λ i. f (suc i)) in
+    let a : 2 * w % 2 ≡ 0 = omega arith in
+    let b : 2 * w / 2 ≡ w = omega arith in
+    rw y (rw double (rw (a, b, r))))
+    (λ z. rw z (rw (zero-add, r)))
 
 -- ---- a set by its mask, in a wider range
 

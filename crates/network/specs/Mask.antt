@@ -54,3 +54,8 @@ joinBelow (suc n) f = joinBelow n f ++ f n
 unfoldable pub submask : ℕ → (ℕ → Bool) → ℕ → ℕ
 submask zero f k = 0
 submask (suc n) f k = cond (f zero) (k % 2 + 2 * submask n (λ i. f (suc i)) (k / 2)) (2 * submask n (λ i. f (suc i)) k)
+
+-- The number of a mask among them: its digits at the members of the set.
+unfoldable pub rank : ℕ → (ℕ → Bool) → ℕ → ℕ
+rank zero f m = 0
+rank (suc n) f m = cond (f zero) (m % 2 + 2 * rank n (λ i. f (suc i)) (m / 2)) (rank n (λ i. f (suc i)) (m / 2))

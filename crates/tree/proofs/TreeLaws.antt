@@ -9,7 +9,7 @@ use Rattle.network.specs.Network.{Network}
 use Rattle.network.specs.Game.{State, Move, outcomes, outcomeAt, after}
 use Rattle.network.specs.Tree.{Tree, done, node, Sound, preorder, nodes}
 use Rattle.network.specs.FirstMoves.{SameTree}
-use Rattle.network.proofs.JoinLaws.{join-lengths, join-parse}
+use Rattle.network.proofs.JoinLaws.{join-cong, join-lengths, join-parse}
 use Rattle.network.proofs.GameLaws.{not-over, outcome-at-is, outcome-numbered}
 use Rattle.tree.specs.Nodes.{nodeBytes}
 use Rattle.tree.specs.Trees.{nodeOf, movesBytes, treeBytes}
@@ -37,7 +37,7 @@ module _ (net : Network) where
   unfolding preorder movesBytes
   done-bytes = refl
 
-  node-bytes : (m : Move) (next : ℕ → Tree) → treeBytes net (node m next) ≡ nodeBytes (nodeOf m) ++ subtreesBytes m next
+  pub node-bytes : (m : Move) (next : ℕ → Tree) → treeBytes net (node m next) ≡ nodeBytes (nodeOf m) ++ subtreesBytes m next
   unfolding preorder movesBytes
   node-bytes m next = ap (λ (bs : List ℕ). nodeBytes (nodeOf m) ++ bs) (moves-join (outcomes net m) _)
 
@@ -88,3 +88,23 @@ module _ (net : Network) where
         ),
         each .1,
       )
+
+  -- ---- trees that are the same have the same bytes, and as many nodes
+
+  pub same-bytes : (t t′ : Tree) → SameTree net t t′ → treeBytes net t ≡ treeBytes net t′
+  unfolding SameTree
+  same-bytes done done same = refl
+  same-bytes (node m next) (node m′ next′) same =
+      node-bytes m next
+      ∙ ap (λ (bs : List ℕ). nodeBytes (nodeOf m) ++ bs)
+      (join-cong (outcomes net m) _ _ (λ k lt. same-bytes (next (outcomeAt net m k)) (next′ (outcomeAt net m k))
+      (same .1 (outcomeAt net m k) (outcome-at-is net m k))))
+      ∙ sym (node-bytes m next′)
+      ∙ ap (λ (x : Move). treeBytes net (node x next′)) (same .0)
+
+  pub same-nodes : (t t′ : Tree) → SameTree net t t′ → nodes net t ≡ nodes net t′
+  same-nodes t t′ same =
+      let a = tree-length t in
+      let b = tree-length t′ in
+      let c = ap length (same-bytes t t′ same) in
+      omega arith

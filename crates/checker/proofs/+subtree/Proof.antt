@@ -10,9 +10,10 @@ use Rattle.network.specs.Mask.{bit, count}
 use Rattle.network.proofs.Booleans.{denied, granted}
 use Rattle.plan.proofs.SliceLaws.{rest-is}
 use Rattle.game.specs.Position.{stateOf}
+use Rattle.game.proofs.NextLaws.{next}
 use Rattle.checker.specs.declared.Checked.the-variants as checked
 use Rattle.checker.specs.Checker.{withSubtrees, subtreeAt}
-use Rattle.checker.proofs.CodeLaws.{next, below, AtNode, at-node, path-ends, too-short, not-legal, subtrees-none, subtrees-on, subtrees-stop}
+use Rattle.checker.proofs.CodeLaws.{below, AtNode, at-node, path-ends, too-short, not-legal, subtrees-none, subtrees-on, subtrees-stop}
 use Rattle.checker.proofs.subtree.Reads as subtree
 use Rattle.checker.proofs.subtree.Kinds as kinds
 use Rattle.checker.proofs.+subtree.Lts-subtree as subtree-lts

@@ -1,0 +1,13 @@
+-- `first_move`: what is called says it. Only the checker need believe this file.
+use borrow.Author.Needs.{needs}
+use Rattle.moves.proofs.first_move.Statement.{statement}
+use Rattle.moves.proofs.first_move.Tie as tie
+
+from-slot-requires : tie.Need-from-slot-requires
+from-slot-requires c κs = search needs
+
+returns : tie.Need-returns
+returns c = c .from-slot .ensures
+
+pub first-move-spec : {M : Type 1} → statement M
+first-move-spec = tie.close (tie.spec from-slot-requires returns)
