@@ -20,7 +20,7 @@ use Rattle.checker.specs.Checker.{withSubtrees, nodeAndBelow, subtreeIn,
 
 -- ---- K4 and its trees
 
-abbrev k4-tree : List ℕ
+abbrev pub k4-tree : List ℕ
 k4-tree = 0 ∷ 1 ∷ 0 ∷ 2 ∷ 2 ∷ 0 ∷ 1 ∷ 2 ∷ 0 ∷ []
 
 -- its children exchanged; a child in slot 0
@@ -68,7 +68,7 @@ broken-shapes = (refl, refl, refl, refl, refl, refl, refl)
 -- ---- a last node that hears: one point, condition 0 at it. Each outcome is a path, though there is no child.
 
 -- a constraint that no slot keeps, where the condition has this value
-abbrev never : ℕ → Constraint
+abbrev pub never : ℕ → Constraint
 never v = constraint 0 0 65535 1 v
 
 pub last-node :
@@ -85,7 +85,7 @@ last-node = (refl, refl, refl, refl)
 abbrev exactly : ℕ → ℕ → ℕ → List Constraint
 exactly d minus o = constraint 0 2 d 3 o ∷ (constraint 2 0 minus 3 o ∷ [])
 
-abbrev four-ways : Plan
+abbrev pub four-ways : Plan
 four-ways =
     plan 4 3 (letter 0 0 ∷ (letter 1 0 ∷ [])) (exactly 1 65535 0 ++ exactly 2 65534 1 ++ exactly 3 65533 2 ++ exactly 4 65532 3)
 

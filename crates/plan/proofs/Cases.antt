@@ -43,7 +43,11 @@ plan h n ls cs = record-of h n (length ls) (length cs) ls cs
 abbrev move : ℕ → ℕ → ℕ → Move
 move t ps ch = record { slot = t; points = ps; choices = ch }
 
--- ---- the network of a plan: document 01's K4, K5, K7, K8, and K4 with its two points exchanged
+-- ---- document 01's K1 to K8
+
+-- one point: K1 with no constraint, K2 and K3 with one each
+abbrev pub one-point : List Constraint → Plan
+one-point cs = plan 3 1 [] cs
 
 abbrev pub apart : ℕ → List Constraint
 apart d = constraint 0 1 d 1 1 ∷ (constraint 1 0 65534 1 0 ∷ [])
@@ -54,11 +58,16 @@ k4 = plan 2 2 (letter 0 0 ∷ []) (apart 1)
 abbrev pub k5 : Plan
 k5 = plan 1 2 (letter 0 0 ∷ []) (apart 1)
 
+abbrev pub k6 : Plan
+k6 = plan 63 2 (letter 0 0 ∷ []) (apart 0)
+
 abbrev pub k7 : Plan
 k7 = plan 2 2 (letter 0 1 ∷ []) (apart 0)
 
 abbrev pub k8 : Plan
 k8 = plan 1 2 (letter 0 1 ∷ []) (apart 0)
+
+-- ---- the network of a plan: K4, K5, K7, K8, and K4 with its two points exchanged
 
 abbrev exchanged : Plan
 exchanged = plan 2 2 (letter 1 0 ∷ []) (constraint 1 0 1 1 1 ∷ (constraint 0 1 65534 1 0 ∷ []))

@@ -2,12 +2,12 @@
 -- checker need believe this file.
 use mathlib.Core.Path.{_≡_, refl, sym, ap, _∙_}
 use mathlib.Core.Logic.{_↔_, by-cases}
-use mathlib.Core.Bool.{true, false, not}
+use mathlib.Core.Bool.{Bool, true, false, not}
 use mathlib.Core.List.{List, [], _++_, append-assoc}
 use Prim.Native.Nat.{ℕ, _+_, _-_, _*_, _≤_, _<_}
 use native.Mathlib.Omega.{arith}
 use native.Mathlib.Decide.{decLt}
-use lib.Dec.{eqb}
+use lib.Dec.{leb, eqb}
 use lib.ListN.{length, take, drop, replicate, length-append, length-drop, length-replicate}
 use lib.Seq.{drop-append-seam, take-at, drop-at}
 use Rattle.network.specs.Network.{Network, IsNetwork}
@@ -80,13 +80,21 @@ module _ (p : Plan) (xs : List ℕ) where
 
   -- ---- the faults in their order
 
-  pub short-fault : length xs < mostBytes → searchFault p xs ≡ refusalNumber refusal.Buffer
-  unfolding searchFault unless
-  short-fault lt = rw (leb-no mostBytes (length xs) (λ le. omega arith)) (first-refused refusal.Buffer _)
+  -- those behind the buffer's
+  abbrev later : ℕ
+  later = first (planFault p) (unless (not (hopeless net)) refusal.Hopeless)
 
-  behind-room : mostBytes ≤ length xs → searchFault p xs ≡ first (planFault p) (unless (not (hopeless net)) refusal.Hopeless)
-  unfolding searchFault unless first
-  behind-room room = rw (leb-yes mostBytes (length xs) room)
+  by-room : (b : Bool) → leb mostBytes (length xs) ≡ b → searchFault p xs ≡ first (unless b refusal.Buffer) later
+  unfolding searchFault
+  by-room b t = ap (λ (c : Bool). first (unless c refusal.Buffer) later) t
+
+  pub short-fault : length xs < mostBytes → searchFault p xs ≡ refusalNumber refusal.Buffer
+  unfolding unless
+  short-fault lt = by-room false (leb-no mostBytes (length xs) (λ le. omega arith)) ∙ first-refused refusal.Buffer later
+
+  behind-room : mostBytes ≤ length xs → searchFault p xs ≡ later
+  unfolding unless first
+  behind-room room = by-room true (leb-yes mostBytes (length xs) room)
 
   pub plan-fault : mostBytes ≤ length xs → ¬ WellFormed p → searchFault p xs ≡ planFault p
   unfolding first

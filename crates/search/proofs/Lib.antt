@@ -3,3 +3,4 @@ pub mod BufferLaws
 pub mod AnswerLaws
 pub mod SearchTheorems
 pub mod CodeLaws
+pub mod Cases

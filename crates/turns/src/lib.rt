@@ -39,8 +39,9 @@ pub fn agent(plan: Plan, at: Position, buf: &mut [u8]) -> Turn
         };
         let below = world(plan, at, v, &mut buf[3..]);
         if let Turn::Won(n) = below {
+            let nodes = n + 1;
             tree::put_node(buf, 0, v);
-            return Turn::Won(n + 1);
+            return Turn::Won(nodes);
         }
         step = moves::next_move(plan, at, v);
     }

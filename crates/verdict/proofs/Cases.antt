@@ -13,7 +13,7 @@ use Rattle.plan.specs.declared.Constraint.{Constraint}
 use Rattle.plan.specs.Answer.{unless, first, Answer, fine, answered}
 use Rattle.plan.specs.Plan.{signed, listed}
 use Rattle.judge.specs.Judge.{headFine, takenBefore, letterFine, letterUnused, letterEntry, lettersFine, boundFine, constraintFine, constraintUnused, constraintEntry, constraintsFine, planFault}
-use Rattle.plan.proofs.Cases.{letter, constraint, plan, apart, k4, k5, k7, k8}
+use Rattle.plan.proofs.Cases.{letter, constraint, plan, one-point, k4, k5, k6, k7, k8}
 use Rattle.verdict.specs.Verdict.{climbed, leastSlots, withinHorizon, Fixed, none, fixed, verdictOf, verdictFault, leastSchedule, passes, screened}
 
 -- the least schedule: the slots of the first points; the other entries are zero
@@ -28,15 +28,8 @@ refuses n = record { fault = n; value = none }
 
 -- ---- document 01's plans
 
--- K1, K2, K3: one point; before itself; not before itself
-abbrev one-point : List Constraint → Plan
-one-point cs = plan 3 1 [] cs
-
--- K6: K4 with the first bound 0, horizon 63
-abbrev k6 : Plan
-k6 = plan 63 2 (letter 0 0 ∷ []) (apart 0)
-
--- K4 and K5 where letter 0 is true: point 1 at most 1 after point 0; where it is false: at least 2 after it
+-- K1, K2, K3: one point; before itself; not before itself. K4 and K5 where letter 0 is true: point 1 at most 1 after point 0; where it is
+-- false: at least 2 after it
 pub k1-to-k5 :
     (leastSchedule (one-point []) 0 ≡ schedule (0 ∷ [])) × (leastSchedule (one-point (constraint 0 0 65535 0 0 ∷ [])) 0 ≡ no-schedule)
     × (leastSchedule (one-point (constraint 0 0 0 0 0 ∷ [])) 0 ≡ schedule (0 ∷ []))

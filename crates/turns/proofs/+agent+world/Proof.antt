@@ -1,5 +1,6 @@
 -- The proof of `agent` and `world`, which call each other with fewer points left. Only the checker need believe this file.
 use mathlib.Core.Path.{_≡_, refl, sym, _∙_, subst}
+use mathlib.Core.Bool.{true, false}
 use Prim.Native.Nat.{ℕ, _+_, _-_, _*_, _^_, _≤_, _<_}
 use native.Mathlib.Omega.{arith}
 use borrow.Author.Needs.{needs}
@@ -139,7 +140,8 @@ agent-won t c =
     let v = c .before .before .before .before .before .before .before .before .step .given .0 .0 in
     let l = c .before .before .before .before .before .before .before .before .before .before .loop in
     let w = c .before .before .before .before .before .world in
-    subst (λ (r : Turn). WorldAt (a .plan) (a .at) v r (rest 3 (l .buf)) (w .last .1 .1 .1 .0)) (c .before .below .given .1) (w .ensures)
+    let said : WorldAt (a .plan) (a .at) v (w .result) (rest 3 (l .buf)) (w .last .1 .1 .1 .0) = w .ensures in
+    subst (λ (r : Turn). WorldAt (a .plan) (a .at) v r (rest 3 (l .buf)) (w .last .1 .1 .1 .0)) (c .before .below .given .1) said
 
 agent-all-kept-requires : (t : ℕ) → agent-lts.Need-all-kept-requires (agent-calls t) (agent-at t) agent.Post agent-Inv-loop agent-μ-loop
 agent-all-kept-requires t c κs = search needs
@@ -148,15 +150,17 @@ agent-returns : (t : ℕ) → agent-lts.Need-returns (agent-calls t) (agent-at t
 agent-returns t c =
     let s = c .before .before .before .before .before .before in
     let a = s .args in
+    let said : c .before .all-kept .result ≡ true = c .if2 .taken in
     at-place.ends-won (a .plan) (s .pre .1 .0) (a .at) (s .pre .1 .1) (a .buf .now) (s .pre .1 .2)
-    (c .before .before .before .if1 .taken) _ (c .before .all-kept .ensures) (c .if2 .taken)
+    (c .before .before .before .if1 .taken) _ (c .before .all-kept .ensures) said
 
 agent-returns-2 : (t : ℕ) → agent-lts.Need-returns-2 (agent-calls t) (agent-at t) agent.Post agent-Inv-loop agent-μ-loop
 agent-returns-2 t c =
     let s = c .before .before .before .before .before .before in
     let a = s .args in
+    let said : c .before .all-kept .result ≡ false = c .if2 .left in
     at-place.ends-lost (a .plan) (s .pre .1 .0) (a .at) (s .pre .1 .1) (a .buf .now) (s .pre .1 .2)
-    (c .before .before .before .if1 .taken) _ (c .before .all-kept .ensures) (c .if2 .left)
+    (c .before .before .before .if1 .taken) _ (c .before .all-kept .ensures) said
 
 agent-first-move-requires : (t : ℕ) → agent-lts.Need-first-move-requires (agent-calls t) (agent-at t) agent.Post agent-Inv-loop agent-μ-loop
 agent-first-move-requires t c κs = search needs
@@ -211,21 +215,21 @@ agent-world-requires t c κs =
 agent-enum-known-below : (t : ℕ) → agent-lts.Need-enum-known-below (agent-calls t) (agent-at t) agent.Post agent-Inv-loop agent-μ-loop
 agent-enum-known-below t c = search needs
 
-agent-put-node-requires : (t : ℕ) → agent-lts.Need-put-node-requires (agent-calls t) (agent-at t) agent.Post agent-Inv-loop agent-μ-loop
-agent-put-node-requires t c κs = search needs
-
-agent-add-t18 : (t : ℕ) → agent-lts.Need-add-t18 (agent-calls t) (agent-at t) agent.Post agent-Inv-loop agent-μ-loop
-agent-add-t18 t c =
-    let s = c .before .before .before .before .before .before .before .before .before .before .before .before .before .before .before .before .before .before .before in
+agent-add-nodes : (t : ℕ) → agent-lts.Need-add-nodes (agent-calls t) (agent-at t) agent.Post agent-Inv-loop agent-μ-loop
+agent-add-nodes t c =
+    let s = c .before .before .before .before .before .before .before .before .before .before .before .before .before .before .before in
     let a = s .args in
-    let l = c .before .before .before .before .before .before .before .before .before .before .before .before .before .before .loop in
-    let tries = agent-tries t (c .before .before .before .before .before .before .before .before .before .before .before) in
-    let won = agent-won t (c .before .before .before .before) in
+    let l = c .before .before .before .before .before .before .before .before .before .before .loop in
+    let tries = agent-tries t (c .before .before .before .before .before .before .before) in
+    let won = agent-won t (c) in
     let f = at-place.count-fits (a .plan) (s .pre .1 .0) (a .at) (s .pre .1 .1) (a .buf .now) (s .pre .1 .2)
     (l .buf) (l .inv .0) _ tries _ _ won in
     let e = l .inv .0 in
     let g = s .good .1 .1 .0 .0 in
     omega arith
+
+agent-put-node-requires : (t : ℕ) → agent-lts.Need-put-node-requires (agent-calls t) (agent-at t) agent.Post agent-Inv-loop agent-μ-loop
+agent-put-node-requires t c κs = search needs
 
 agent-same-length-2 : (t : ℕ) → agent-lts.Need-same-length-2 (agent-calls t) (agent-at t) agent.Post agent-Inv-loop agent-μ-loop
 agent-same-length-2 t c = search needs
@@ -314,7 +318,8 @@ world-won t c =
     let r = c .before .before .before .before .before .agent in
     let u = c .before .before .before .before .before .before .before .after .result in
     let is-won = c .before .below .given .1 in
-    subst (λ (x : Turn). AgentAt (a .plan) u x (rest (3 * l .count) (l .buf)) (r .last .1 .1 .0)) is-won (r .ensures)
+    let said : AgentAt (a .plan) u (r .result) (rest (3 * l .count) (l .buf)) (r .last .1 .1 .0) = r .ensures in
+    subst (λ (x : Turn). AgentAt (a .plan) u x (rest (3 * l .count) (l .buf)) (r .last .1 .1 .0)) is-won said
 
 world-move-lost-requires : (t : ℕ) → world-lts.Need-move-lost-requires (world-calls t) (world-at t) world.Post world-Inv-loop world-μ-loop
 world-move-lost-requires t c κs = let q = c .before .pre .1 in (q .0, q .1, q .2)
@@ -323,7 +328,8 @@ world-returns : (t : ℕ) → world-lts.Need-returns (world-calls t) (world-at t
 world-returns t c =
     let s = c .before .before .before in
     let a = s .args in
-    at-place.refuted (a .plan) (s .pre .1 .0) (a .at) (s .pre .1 .1) (a .v) (s .pre .1 .2) (a .buf .now) (s .pre .1 .3) (c .before .move-lost .ensures (c .if1 .taken))
+    let said : c .before .move-lost .result ≡ true = c .if1 .taken in
+    at-place.refuted (a .plan) (s .pre .1 .0) (a .at) (s .pre .1 .1) (a .v) (s .pre .1 .2) (a .buf .now) (s .pre .1 .3) (c .before .move-lost .ensures said)
 
 world-heard-requires : (t : ℕ) → world-lts.Need-heard-requires (world-calls t) (world-at t) world.Post world-Inv-loop world-μ-loop
 world-heard-requires t c κs = search needs
@@ -467,8 +473,8 @@ pub +agent+world-spec : {M : Type 1} → statement M
     (agent-part-world-end t)
     (agent-world-requires t)
     (agent-enum-known-below t)
+    (agent-add-nodes t)
     (agent-put-node-requires t)
-    (agent-add-t18 t)
     (agent-same-length-2 t)
     (agent-returns-4 t)
     (agent-enum-told-2 t)
