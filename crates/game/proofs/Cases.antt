@@ -14,22 +14,22 @@ use Rattle.game.specs.declared.Position.{Position}
 use Rattle.game.specs.Position.{stateOf, startPosition, isLegal, positionAfter}
 
 -- slots 0 to 2; condition 0 at point 0, decision 1 at point 1
-abbrev two-points : Plan
+abbrev pub two-points : Plan
 two-points = plan 2 2 (letter 0 0 ∷ (letter 1 1 ∷ [])) []
 
 -- slot, points, choices
-abbrev node : ℕ → ℕ → ℕ → Node
+abbrev pub node : ℕ → ℕ → ℕ → Node
 node t ps ch = record { slot = t; points = ps; choices = ch }
 
 -- earliest, left, values, the slots of the first two points
-abbrev position : ℕ → ℕ → ℕ → ℕ → ℕ → Position
+abbrev pub position : ℕ → ℕ → ℕ → ℕ → ℕ → Position
 position e l vs s0 s1 = record { earliest = e; left = l; values = vs; slots = s0 ∷ (s1 ∷ replicate 6 0) }
 
 abbrev legal : Position → Node → Bool
 legal at v = isLegal two-points (stateOf two-points at) (moveOf v)
 
 -- point 0 in slot 1, and condition 0 was heard true
-abbrev midway : Position
+abbrev pub midway : Position
 midway = position 2 2 1 1 0
 
 -- ---- a path: point 0 in slot 1, condition 0 true; point 1 in slot 2, decision 1 set true; or both points at once

@@ -14,7 +14,6 @@ use Rattle.network.proofs.Booleans.{clash}
 use Rattle.network.proofs.MaskLaws.{bit-zero, in-mask, bits-lt}
 use Rattle.network.proofs.GameLaws.{not-over, some-points}
 use Rattle.network.proofs.SearchLaws.{some-bit}
-pub use Rattle.network.proofs.FirstLaws.{before-cases}
 use Rattle.masks.specs.Masks.{nextInside}
 use Rattle.masks.proofs.NextLaws.{Within, Last, Next, next-inside-cases}
 use Rattle.plan.specs.declared.Plan.{Plan}
@@ -26,11 +25,12 @@ use Rattle.tree.specs.Trees.{moveOf}
 use Rattle.game.specs.declared.Position.{Position}
 use Rattle.game.specs.Position.{stateOf, Proper}
 use Rattle.game.proofs.LegalLaws.{choices-settled}
-use Rattle.game.proofs.PositionLaws.{inside-is}
 use Rattle.moves.specs.declared.Step.{Step}
 use Rattle.moves.specs.declared.Step.the-variants as step
 use Rattle.moves.specs.Moves.{FirstOf, fromSlot, firstStep, nextStep}
-use Rattle.moves.proofs.StepLaws.{past-horizon, none-left, first-in, more-choices, more-points, later-slot}
+use Rattle.moves.proofs.StepLaws.{choicesBehind, pointsBehind, past-horizon, none-left, first-in, more-choices, other-points, later-slot}
+-- the order is total
+
 
 -- ---- what the order says
 
@@ -123,7 +123,7 @@ module _ (p : Plan) (wf : WellFormed p) (at : Position) (ok : Proper p at) where
       let c = before-choices b e q in
       omega arith
 
-  -- where R says that a legal move is in this slot or a later one
+  -- R says that a legal move is in this slot or a later one
   from-slot-is :
       (R : Move → Type 0) (slot : ℕ) → at .earliest ≤ slot → ((k : Move) → Legal net s k → R k ↔ (slot ≤ k .slot)) →
       FirstOf net s R (fromSlot p at slot)
@@ -143,12 +143,6 @@ module _ (p : Plan) (wf : WellFormed p) (at : Position) (ok : Proper p at) where
   -- ---- behind a move
 
   module _ (v : Node) (lg : Legal net s (moveOf v)) where
-    abbrev choices : ℕ
-    choices = nextInside (settledBy p (v .points)) (v .choices)
-
-    abbrev points : ℕ
-    points = nextInside (at .left) (v .points)
-
     abbrev MoreChoices : Type 0
     MoreChoices = Next (settledBy p (v .points)) (v .choices)
 
@@ -159,16 +153,27 @@ module _ (p : Plan) (wf : WellFormed p) (at : Position) (ok : Proper p at) where
     same-settled : (k : Move) → Legal net s k → v .points ≡ k .points → Within (settledBy p (v .points)) (k .choices)
     same-settled k lk q = subst (λ (x : ℕ). Within (settledBy p x) (k .choices)) (sym q) (choices-settled p wf s k lk)
 
-    -- behind the last choices, in the same slot: other points
-    other-points : LastChoices → (k : Move) → Legal net s k → Before (moveOf v) k → v .slot ≡ k .slot → v .points < k .points
-    other-points l k lk a t =
+    -- the same points with more choices
+    choices-legal : MoreChoices → Legal net s (record { slot = v .slot; points = v .points; choices = choicesBehind p v })
+    choices-legal r =
+        record {
+          later = lg .later;
+          within = lg .within;
+          some = lg .some;
+          not-yet = lg .not-yet;
+          disclosed = λ l y. in-mask 6 _ l (r .within l y) .1;
+        }
+
+    -- behind the last choices, in the same slot: new points
+    new-points : LastChoices → (k : Move) → Legal net s k → Before (moveOf v) k → v .slot ≡ k .slot → v .points < k .points
+    new-points l k lk a t =
         by-cases (ℕ-discrete (v .points) (k .points))
         (λ q. absurd (l .none-greater (k .choices) (same-settled k lk q) (before-choices a t q)))
         (λ n. let u = before-points a t in omega arith)
 
     choices-least :
         MoreChoices → (k : Move) → Legal net s k → Before (moveOf v) k →
-        ¬ Before k (record { slot = v .slot; points = v .points; choices = choices })
+        ¬ Before k (record { slot = v .slot; points = v .points; choices = choicesBehind p v })
     choices-least r k lk a b =
         let t : v .slot ≡ k .slot = let x = before-slot a in let y = before-slot b in omega arith in
         let q : v .points ≡ k .points = let x = before-points a t in let y = before-points b (sym t) in omega arith in
@@ -178,11 +183,11 @@ module _ (p : Plan) (wf : WellFormed p) (at : Position) (ok : Proper p at) where
 
     points-least :
         LastChoices → Next (at .left) (v .points) → (k : Move) → Legal net s k → Before (moveOf v) k →
-        ¬ Before k (record { slot = v .slot; points = points; choices = 0 })
+        ¬ Before k (record { slot = v .slot; points = pointsBehind at v; choices = 0 })
     points-least l r k lk a b =
         let t : v .slot ≡ k .slot = let x = before-slot a in let y = before-slot b in omega arith in
-        let le = r .least (k .points) (lk .not-yet) (other-points l k lk a t) in
-        let q : k .points ≡ points = let u = before-points b (sym t) in omega arith in
+        let le = r .least (k .points) (lk .not-yet) (new-points l k lk a t) in
+        let q : k .points ≡ pointsBehind at v = let u = before-points b (sym t) in omega arith in
         let c = before-choices b (sym t) q in
         omega arith
 
@@ -190,7 +195,7 @@ module _ (p : Plan) (wf : WellFormed p) (at : Position) (ok : Proper p at) where
         LastChoices → Last (at .left) (v .points) → (k : Move) → Legal net s k → Before (moveOf v) k ↔ (v .slot + 1 ≤ k .slot)
     later-exactly l r k lk = (
       λ a. by-cases (ℕ-discrete (v .slot) (k .slot))
-          (λ t. absurd (r .none-greater (k .points) (lk .not-yet) (other-points l k lk a t)))
+          (λ t. absurd (r .none-greater (k .points) (lk .not-yet) (new-points l k lk a t)))
           (λ n. let u = before-slot a in omega arith),
       λ le. inl (omega arith),
     )
@@ -199,30 +204,19 @@ module _ (p : Plan) (wf : WellFormed p) (at : Position) (ok : Proper p at) where
     unfolding FirstOf
     next-step-is =
         let later = lg .later in
-        let within = lg .within in
         ⊎-elim
         (λ l. ⊎-elim
         (λ r. rw (later-slot p at v (l .zero-next) (r .zero-next))
         (from-slot-is (Before (moveOf v)) (v .slot + 1) (omega arith) (later-exactly l r)))
         (λ r. let g = r .greater in
-        rw (more-points p at v (l .zero-next) (λ e. omega arith)) (
-          bare-legal (v .slot) points later within (omega arith) (r .within),
+        rw (other-points p at v (l .zero-next) (λ e. omega arith)) (
+          bare-legal (v .slot) (pointsBehind at v) later (lg .within) (omega arith) (r .within),
           inr (refl, inl g),
           points-least l r,
         ))
         (next-inside-cases (at .left) left-byte (v .points) (lg .not-yet)))
         (λ r. let g = r .greater in
-        rw (more-choices p at v (λ e. omega arith)) (
-          record {
-            later = later;
-            within = within;
-            some = lg .some;
-            not-yet = lg .not-yet;
-            disclosed = λ l y. in-mask 6 _ l (r .within l y) .1;
-          },
-          inr (refl, inr (refl, g)),
-          choices-least r,
-        ))
+        rw (more-choices p at v (λ e. omega arith)) (choices-legal r, inr (refl, inr (refl, g)), choices-least r))
         (next-inside-cases (settledBy p (v .points)) (settled-byte (v .points)) (v .choices) (choices-settled p wf s (moveOf v) lg))
 
     pub ahead-falls : movesAhead (nextStep p at v) < movesAhead (step.Try v)

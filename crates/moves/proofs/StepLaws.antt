@@ -1,5 +1,5 @@
 -- Laws of the steps through the moves, case by case. Only the checker need believe this file.
-use mathlib.Core.Path.{_≡_, refl}
+use mathlib.Core.Path.{_≡_}
 use mathlib.Core.Bool.{and-false}
 use Prim.Native.Nat.{ℕ, _+_, _≤_, _<_}
 use native.Mathlib.Omega.{arith}
@@ -11,6 +11,13 @@ use Rattle.tree.specs.declared.Node.{Node}
 use Rattle.game.specs.declared.Position.{Position}
 use Rattle.moves.specs.declared.Step.the-variants as step
 use Rattle.moves.specs.Moves.{fromSlot, nextStep}
+
+-- behind a move: the next choices for its points, the next points; 0 where there are no more
+abbrev pub choicesBehind : Plan → Node → ℕ
+choicesBehind p v = nextInside (settledBy p (v .points)) (v .choices)
+
+abbrev pub pointsBehind : Position → Node → ℕ
+pointsBehind at v = nextInside (at .left) (v .points)
 
 module _ (p : Plan) (at : Position) where
   -- ---- from a slot on: past the horizon, where no point is left, or the first move
@@ -29,25 +36,21 @@ module _ (p : Plan) (at : Position) where
   unfolding fromSlot
   first-in slot h n = rw (leb-yes slot (p .horizon) h, eqb-no (at .left) 0 n)
 
-  -- ---- behind a move: more choices, more points, a later slot
+  -- ---- behind a move: more choices, other points, a later slot
 
-  module _ (v : Node) where
-    abbrev choices : ℕ
-    choices = nextInside (settledBy p (v .points)) (v .choices)
+  pub more-choices :
+      (v : Node) → ¬ (choicesBehind p v ≡ 0) →
+      nextStep p at v ≡ step.Try (record { slot = v .slot; points = v .points; choices = choicesBehind p v })
+  unfolding nextStep
+  more-choices v n = rw (eqb-no (choicesBehind p v) 0 n)
 
-    abbrev points : ℕ
-    points = nextInside (at .left) (v .points)
+  pub other-points :
+      (v : Node) → choicesBehind p v ≡ 0 → ¬ (pointsBehind at v ≡ 0) →
+      nextStep p at v ≡ step.Try (record { slot = v .slot; points = pointsBehind at v; choices = 0 })
+  unfolding nextStep
+  other-points v e n = rw (eqb-yes (choicesBehind p v) 0 e, eqb-no (pointsBehind at v) 0 n)
 
-    pub more-choices :
-        ¬ (choices ≡ 0) → nextStep p at v ≡ step.Try (record { slot = v .slot; points = v .points; choices = choices })
-    unfolding nextStep
-    more-choices n = rw (eqb-no choices 0 n)
-
-    pub more-points :
-        choices ≡ 0 → ¬ (points ≡ 0) → nextStep p at v ≡ step.Try (record { slot = v .slot; points = points; choices = 0 })
-    unfolding nextStep
-    more-points e n = rw (eqb-yes choices 0 e, eqb-no points 0 n)
-
-    pub later-slot : choices ≡ 0 → points ≡ 0 → nextStep p at v ≡ fromSlot p at (v .slot + 1)
-    unfolding nextStep
-    later-slot e f = rw (eqb-yes choices 0 e, eqb-yes points 0 f)
+  pub later-slot :
+      (v : Node) → choicesBehind p v ≡ 0 → pointsBehind at v ≡ 0 → nextStep p at v ≡ fromSlot p at (v .slot + 1)
+  unfolding nextStep
+  later-slot v e f = rw (eqb-yes (choicesBehind p v) 0 e, eqb-yes (pointsBehind at v) 0 f)

@@ -20,6 +20,7 @@ use Rattle.network.proofs.SearchLaws.{over-is, wins-by-is, some-wins, f
 use Rattle.network.proofs.TreeStrategy.{wins→consistent}
 use Rattle.network.proofs.StrategyTree.{consistent→won}
 
+-- a case split on the order of two numbers
 by-order : {C : Type 0} (a b : ℕ) → (a < b → C) → (a ≡ b → C) → (b < a → C) → C
 by-order a b f g h = by-cases (decLt a b) f (λ ge. by-cases (decLt b a) h (λ le. g (omega arith)))
 

@@ -20,6 +20,7 @@ use Rattle.network.specs.Search.{over}
 use Rattle.network.proofs.BelowLaws.{sum-le}
 use Rattle.network.proofs.JoinLaws.{join-lengths}
 use Rattle.network.proofs.GameLaws.{Inside, after-inside, outcome-at-is, outcome-numbered}
+use Rattle.network.proofs.FirstLaws.{before-cases}
 use Rattle.network.proofs.SizeLaws.{room-positive, room-same, room-step}
 use Rattle.tree.specs.declared.Node.{Node}
 use Rattle.tree.specs.Nodes.{nodeBytes}
@@ -28,7 +29,6 @@ use Rattle.tree.proofs.TreeLaws.{tree-length, node-bytes, same-bytes, same-node
 use Rattle.moves.specs.declared.Step.{Step}
 use Rattle.moves.specs.declared.Step.the-variants as step
 use Rattle.moves.specs.Moves.{FirstOf}
-use Rattle.moves.proofs.OrderLaws.{before-cases}
 use Rattle.turns.specs.declared.Turn.the-variants as turn
 use Rattle.turns.specs.Turns.{most, mostBehind, Leaves, Finds, firstTreeAt, AgentFinds, treeBehind, WorldFinds}
 use Rattle.turns.proofs.BufferLaws.{untouched, given-up, front-is, behind-front}
