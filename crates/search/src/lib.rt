@@ -60,5 +60,6 @@ pub fn search(plan: Plan, buf: &mut [u8]) -> Searched
         return Searched::Refused(Refusal::Hopeless);
     };
     clear(&mut buf[3 * n..573]);
-    Searched::Nodes(n as u8)
+    let count = n as u8;
+    Searched::Nodes(count)
 }

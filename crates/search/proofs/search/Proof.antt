@@ -105,10 +105,10 @@ mul-clear : tie.Need-mul-clear
 mul-clear c = let f = fits c in omega arith
 
 sub-clear : tie.Need-sub-clear
-sub-clear c = fits c
+sub-clear c = let f = fits c in omega arith
 
 part-clear-start : tie.Need-part-clear-start
-part-clear-start c = fits c
+part-clear-start c = let f = fits c in omega arith
 
 part-clear-end : tie.Need-part-clear-end
 part-clear-end c = search needs
@@ -116,8 +116,8 @@ part-clear-end c = search needs
 clear-requires-2 : tie.Need-clear-requires-2
 clear-requires-2 c κs = search needs
 
-cast-t21 : tie.Need-cast-t21
-cast-t21 c = let f = fits (c .before .before .before .before) in omega arith
+cast-count : tie.Need-cast-count
+cast-count c = let f = fits (c .before .before .before .before) in omega arith
 
 same-length-2 : tie.Need-same-length-2
 same-length-2 c = search needs
@@ -152,6 +152,6 @@ search-spec =
     part-clear-start
     part-clear-end
     clear-requires-2
-    cast-t21
+    cast-count
     same-length-2
     returns-4)
