@@ -29,8 +29,8 @@ use Rattle.moves.specs.declared.Step.{Step}
 use Rattle.moves.specs.declared.Step.the-variants as step
 use Rattle.moves.specs.Moves.{FirstOf, fromSlot, firstStep, nextStep}
 use Rattle.moves.proofs.StepLaws.{choicesBehind, pointsBehind, past-horizon, none-left, first-in, more-choices, other-points, later-slot}
--- the order is total
 
+-- the order is total
 
 -- ---- what the order says
 

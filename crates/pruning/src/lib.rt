@@ -33,10 +33,10 @@ fn broken(c: Constraint, at: Position, unknown: u8) -> bool
         & !constraints::constraint_kept(c, slots, at.values)
 }
 
-// The test of a state: it says lost only where the remaining game cannot be won. Where it says nothing the game is tried.
+// The test of a state: of a well-formed plan and a proper position it says lost only where the remaining game cannot be won. Where it does
+// not say so the game is tried.
 pub fn lost(plan: Plan, at: Position) -> bool
-    requires { ⌜ WellFormed plan × Proper plan at ⌝ }
-    ensures { λ r. ⌜ (r ≡ true → ¬ CanBeWon (networkOf plan) (stateOf plan at)) ⌝ }
+    ensures { λ r. ⌜ (WellFormed plan → Proper plan at → r ≡ true → ¬ CanBeWon (networkOf plan) (stateOf plan at)) ⌝ }
 {
     let waiting = unknown(plan, at.left);
     let n = plan.constraints;
@@ -51,10 +51,10 @@ pub fn lost(plan: Plan, at: Position) -> bool
     false
 }
 
-// Whether the test says lost after some outcome of the move: then it wins nothing.
+// Whether the test says lost after some outcome of a legal move: then the move does not win.
 pub fn move_lost(plan: Plan, at: Position, v: Node) -> bool
-    requires { ⌜ WellFormed plan × Proper plan at × Legal (networkOf plan) (stateOf plan at) (moveOf v) ⌝ }
-    ensures { λ r. ⌜ (r ≡ true → ¬ Winning (networkOf plan) (stateOf plan at) (moveOf v)) ⌝ }
+    ensures { λ r. ⌜ (WellFormed plan → Proper plan at → Legal (networkOf plan) (stateOf plan at) (moveOf v) → r ≡ true
+        → ¬ Winning (networkOf plan) (stateOf plan at) (moveOf v)) ⌝ }
 {
     let heard = letters::heard(plan, v.points);
     let outcomes = masks::submasks(heard);

@@ -42,7 +42,7 @@ returns c =
     let one : entry .result ≡ constraintAt (a .plan) j = entry .ensures in
     let yes : test .result ≡ true = c .if1 .taken in
     let found : brokenAt (a .at) (letters .result) (entry .result) ≡ true = sym (test .ensures) ∙ yes in
-    λ e. found-lost (a .plan) (s .pre .0) (a .at) j (omega arith) (rw (waiting, one) at found)
+    λ wf ok e. found-lost (a .plan) wf (a .at) j (omega arith) (rw (waiting, one) at found)
 
 add-j : tie.Need-add-j Inv-loop μ-loop
 add-j c = record { fits = omega arith }
@@ -54,7 +54,7 @@ loop-again : tie.Need-loop-again Inv-loop μ-loop
 loop-again c = tt
 
 returns-2 : tie.Need-returns-2 Inv-loop μ-loop
-returns-2 c e = clash e refl
+returns-2 c wf ok e = clash e refl
 
 pub lost-spec : {M : Type 1} → statement M
 lost-spec =

@@ -55,12 +55,7 @@ after-requires : tie.Need-after-requires Inv-loop μ-loop
 after-requires c κs = search needs
 
 lost-requires : tie.Need-lost-requires Inv-loop μ-loop
-lost-requires c κs =
-    let s = c .before .before .before .before .before .before in
-    let a = s .args in
-    let proper : Proper (a .plan) (c .after .result)
-    = rw (is-next c) (next-proper (a .plan) (s .pre .0) (a .at) (s .pre .1) (a .v) (s .pre .2) (c .before .before .before .loop .k)) in
-    (s .pre .0, proper)
+lost-requires c κs = search needs
 
 returns : tie.Need-returns Inv-loop μ-loop
 returns c =
@@ -69,8 +64,11 @@ returns c =
     let k = c .before .before .before .before .before .loop .k in
     let test = c .before .lost in
     let yes : test .result ≡ true = c .if1 .taken in
-    let said : ¬ CanBeWon (networkOf (a .plan)) (stateOf (a .plan) (c .before .before .after .result)) = test .ensures yes in
-    λ e. move-wins-nothing (a .plan) (s .pre .0) (a .at) (s .pre .1) (long s) (a .v) (s .pre .2) k (rw (is-next (c .before .before)) at said)
+    λ wf ok lg e.
+    let proper : Proper (a .plan) (c .before .before .after .result)
+    = rw (is-next (c .before .before)) (next-proper (a .plan) wf (a .at) ok (a .v) lg k) in
+    let said : ¬ CanBeWon (networkOf (a .plan)) (stateOf (a .plan) (c .before .before .after .result)) = test .ensures wf proper yes in
+    move-wins-nothing (a .plan) wf (a .at) ok (long s) (a .v) lg k (rw (is-next (c .before .before)) at said)
 
 add-k : tie.Need-add-k Inv-loop μ-loop
 add-k c = record { fits = omega arith }
@@ -82,7 +80,7 @@ loop-again : tie.Need-loop-again Inv-loop μ-loop
 loop-again c = tt
 
 returns-2 : tie.Need-returns-2 Inv-loop μ-loop
-returns-2 c e = clash e refl
+returns-2 c wf ok lg e = clash e refl
 
 pub move-lost-spec : {M : Type 1} → statement M
 move-lost-spec =

@@ -1,11 +1,12 @@
 -- `from_start`: the start is proper, and 573 bytes are room enough. Only the checker need believe this file.
 use mathlib.Core.Path.{_≡_, sym, ap, _∙_, subst}
+use mathlib.Core.Bool.{true}
 use native.Mathlib.Omega.{arith}
 use borrow.Author.Needs.{needs}
 use Rattle.network.specs.Game.{State, start}
 use Rattle.network.specs.FirstMoves.{CanBeWon}
 use Rattle.plan.specs.Plan.{networkOf}
-use Rattle.game.specs.Position.{stateOf}
+use Rattle.game.specs.Position.{stateOf, Proper}
 use Rattle.game.proofs.PositionLaws.{start-is, start-proper}
 use Rattle.turns.specs.Turns.{most, AgentFinds}
 use Rattle.turns.proofs.TurnLaws.{lost-unwritten}
@@ -17,21 +18,23 @@ use Rattle.search.proofs.from_start.Tie as tie
 at-start : (c : tie.After-start) → stateOf (c .before .before .args .plan) (c .start .result) ≡ start (networkOf (c .before .before .args .plan))
 at-start c = ap (stateOf (c .before .before .args .plan)) (c .start .ensures) ∙ start-is (c .before .before .args .plan) (c .before .before .pre .0)
 
+proper : (c : tie.After-start) → Proper (c .before .before .args .plan) (c .start .result)
+proper c = rw (c .start .ensures) (start-proper (c .before .before .args .plan) (c .before .before .pre .0))
+
 start-requires : tie.Need-start-requires
 start-requires c κs = search needs
 
 lost-requires : tie.Need-lost-requires
-lost-requires c κs =
-    let s = c .before .before in
-    (s .pre .0, rw (c .start .ensures) (start-proper (s .args .plan) (s .pre .0)))
+lost-requires c κs = search needs
 
 returns : tie.Need-returns
 returns c =
     let s = c .before .before .before .before in
     let f = start-fits (s .args .plan) (s .pre .0) in
     let g = s .pre .1 in
+    let yes : c .before .lost .result ≡ true = c .if1 .taken in
     lost-unwritten (networkOf (s .args .plan)) (start (networkOf (s .args .plan))) (s .args .buf .now) (omega arith)
-    (λ won. c .before .lost .ensures (c .if1 .taken) (subst (CanBeWon (networkOf (s .args .plan))) (sym (at-start (c .before .before))) won))
+    (λ won. c .before .lost .ensures (s .pre .0) (proper (c .before .before)) yes (subst (CanBeWon (networkOf (s .args .plan))) (sym (at-start (c .before .before))) won))
 
 agent-requires : tie.Need-agent-requires
 agent-requires c κs =
@@ -39,7 +42,7 @@ agent-requires c κs =
     let f = start-fits (s .args .plan) (s .pre .0) in
     let e = ap (most (networkOf (s .args .plan))) (at-start (c .before .before .before)) in
     let g = s .pre .1 in
-    (s .pre .0, rw (c .before .before .before .start .ensures) (start-proper (s .args .plan) (s .pre .0)), omega arith)
+    (s .pre .0, proper (c .before .before .before), omega arith)
 
 same-length : tie.Need-same-length
 same-length c = search needs

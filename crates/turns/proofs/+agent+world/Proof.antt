@@ -322,14 +322,15 @@ world-won t c =
     subst (λ (x : Turn). AgentAt (a .plan) u x (rest (3 * l .count) (l .buf)) (r .last .1 .1 .0)) is-won said
 
 world-move-lost-requires : (t : ℕ) → world-lts.Need-move-lost-requires (world-calls t) (world-at t) world.Post world-Inv-loop world-μ-loop
-world-move-lost-requires t c κs = let q = c .before .pre .1 in (q .0, q .1, q .2)
+world-move-lost-requires t c κs = search needs
 
 world-returns : (t : ℕ) → world-lts.Need-returns (world-calls t) (world-at t) world.Post world-Inv-loop world-μ-loop
 world-returns t c =
     let s = c .before .before .before in
     let a = s .args in
     let said : c .before .move-lost .result ≡ true = c .if1 .taken in
-    at-place.refuted (a .plan) (s .pre .1 .0) (a .at) (s .pre .1 .1) (a .v) (s .pre .1 .2) (a .buf .now) (s .pre .1 .3) (c .before .move-lost .ensures said)
+    at-place.refuted (a .plan) (s .pre .1 .0) (a .at) (s .pre .1 .1) (a .v) (s .pre .1 .2) (a .buf .now) (s .pre .1 .3)
+    (c .before .move-lost .ensures (s .pre .1 .0) (s .pre .1 .1) (s .pre .1 .2) said)
 
 world-heard-requires : (t : ℕ) → world-lts.Need-heard-requires (world-calls t) (world-at t) world.Post world-Inv-loop world-μ-loop
 world-heard-requires t c κs = search needs
