@@ -30,8 +30,6 @@ use Rattle.moves.specs.declared.Step.the-variants as step
 use Rattle.moves.specs.Moves.{FirstOf, fromSlot, firstStep, nextStep}
 use Rattle.moves.proofs.StepLaws.{choicesBehind, pointsBehind, past-horizon, none-left, first-in, more-choices, other-points, later-slot}
 
--- the order is total
-
 -- ---- what the order says
 
 before-slot : {m k : Move} → Before m k → m .slot ≤ k .slot
