@@ -30,7 +30,7 @@ fn from_start(plan: Plan, buf: &mut [u8]) -> Turn
     turns::agent(plan, at, buf)
 }
 
-// Zeros.
+// Every byte set to zero.
 fn clear(bytes: &mut [u8])
     ensures { λ r. ⌜ now (bytes .exit) ≡ replicate (length (now (bytes .entry))) 0 ⌝ }
 {

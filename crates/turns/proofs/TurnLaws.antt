@@ -186,10 +186,10 @@ module _ (net : Network) (s : State) where
       pub counted : count ≡ nodesOf m k
       pub written : Leaves (bytesOf m k) (mostBehind net s m) xs ys
 
-    -- a test said that the move does not win
+    -- the move does not win, and nothing was written
     pub refuted : (xs : List ℕ) → 3 * mostBehind net s m ≤ length xs → ¬ Winning net s m → WorldFinds net s m turn.Lost xs xs
     unfolding Finds
-    refuted xs fits no-win = (no-win, untouched (mostBehind net s m) xs fits)
+    refuted xs fits fails = (fails, untouched (mostBehind net s m) xs fits)
 
     pub answering-start : (xs : List ℕ) → 3 * mostBehind net s m ≤ length xs → Answering xs xs 0 0
     unfolding sumBelow joinBelow
@@ -202,6 +202,9 @@ module _ (net : Network) (s : State) where
         }
 
     module _ (xs ys : List ℕ) (count k : ℕ) (a : Answering xs ys count k) where
+      written-length : length (bytesOf m k) ≡ 3 * count
+      written-length = bytes-length m k ∙ ap (λ (n : ℕ). 3 * n) (sym (a .counted))
+
       -- every outcome was tried
       pub answered-all : Legal net s m → ¬ (k < outcomes net m) → WorldFinds net s m (turn.Won count) xs ys
       unfolding Finds
@@ -219,6 +222,7 @@ module _ (net : Network) (s : State) where
 
       -- an outcome cannot be won; or it can, and its tree stands behind the others
       module _ (wf : IsNetwork net) (lt : k < outcomes net m) where
+        -- each tree so far has its room
         so-far : count ≤ k * most net (after net s m 0)
         so-far =
             let c = a .counted in
@@ -239,7 +243,7 @@ module _ (net : Network) (s : State) where
             (other es : List ℕ) → Leaves other (most net (afterOutcome k)) (drop (3 * count) ys) es →
             Leaves (bytesOf m k ++ other) (mostBehind net s m) xs (bytesOf m k ++ es)
         behind-others other es w =
-            let long : length (bytesOf m k) ≡ 3 * count = bytes-length m k ∙ ap (λ (n : ℕ). 3 * n) (sym (a .counted)) in
+            let long = written-length in
             let fit = next-fits in
             behind-front (bytesOf m k) (mostBehind net s m) xs ys (a .written) (bytesOf m k) other (most net (afterOutcome k)) es (omega arith)
             (subst (λ (i : ℕ). Leaves other (most net (afterOutcome k)) (drop i ys) es) (sym long) w)
@@ -247,8 +251,7 @@ module _ (net : Network) (s : State) where
         others-stay : (es : List ℕ) → take (3 * count) ys ++ es ≡ bytesOf m k ++ es
         others-stay es =
             ap (λ (zs : List ℕ). zs ++ es)
-            (front-is (bytesOf m k) (mostBehind net s m) xs ys (a .written) (3 * count)
-            (bytes-length m k ∙ ap (λ (n : ℕ). 3 * n) (sym (a .counted))))
+            (front-is (bytesOf m k) (mostBehind net s m) xs ys (a .written) (3 * count) written-length)
 
         pub answered-lost :
             (es : List ℕ) → AgentFinds net (afterOutcome k) turn.Lost (drop (3 * count) ys) es →
