@@ -1,10 +1,10 @@
 -- `search`: the turns' part is put back and what they left behind the tree is cleared. Only the checker need believe this file.
-use mathlib.Core.Path.{sym, ap, _∙_, subst}
+use mathlib.Core.Path.{_≡_, sym, ap, _∙_, subst}
 use mathlib.Core.List.{_++_}
 use Prim.Native.Nat.{_*_, _≤_}
 use native.Mathlib.Omega.{arith}
 use borrow.Author.Needs.{needs}
-use lib.ListN.{take, drop}
+use lib.ListN.{length, take, drop}
 use lib.Seq.{length-take-le, length-front}
 use Rattle.network.specs.Game.{start}
 use Rattle.plan.specs.Refusal.{judgedNumber}
@@ -78,11 +78,19 @@ enum-told-2 c = search needs
 slice-relend-prefix-clear : tie.Need-slice-relend-prefix-clear
 slice-relend-prefix-clear c = search needs
 
+-- the buffer is as long as it was
+same : (c : tie.After-from-start) →
+    let b = c .before .before .before .before .before .before .before .args .buf .now in
+    length (c .from-start .last .1 .0 ++ drop 573 b) ≡ length b
+same c =
+    let r = c .from-start in
+    length-front (c .before .before .before .before .before .before .before .args .buf .now) (r .last .1 .0) 573 (r .kept .1 .0)
+
 slice-aggregate-clear : tie.Need-slice-aggregate-clear
 slice-aggregate-clear c =
     let b = c .before .before .before .before .before .before .before .before .before .before .before .before .args .buf .now in
     let r = c .before .before .before .before .before .from-start in
-    let l = length-front b (r .last .1 .0) 573 (r .kept .1 .0) in
+    let l = same (c .before .before .before .before .before) in
     sym (length-take-le 573 (r .last .1 .0 ++ drop 573 b) (omega arith))
 
 clear-requires : tie.Need-clear-requires
@@ -111,7 +119,10 @@ part-clear-start : tie.Need-part-clear-start
 part-clear-start c = let f = fits c in omega arith
 
 part-clear-end : tie.Need-part-clear-end
-part-clear-end c = search needs
+part-clear-end c =
+    let f = fits c in
+    let e = same (c .before .before .before .before .before) in
+    omega arith
 
 clear-requires-2 : tie.Need-clear-requires-2
 clear-requires-2 c κs = search needs
