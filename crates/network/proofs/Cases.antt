@@ -18,7 +18,7 @@ use Rattle.network.specs.Game.{start, Move, Legal, after}
 use Rattle.network.specs.Tree.{preorder, nodes}
 use Rattle.network.specs.Search.{over, winsBy, winsWith, winsIn, winnable, firstMove, firstTreeFrom, firstTree, hopeless}
 use Rattle.network.specs.FirstMoves.{Before}
-use Rattle.network.specs.Crew.{Step, Some, Hears}
+use Rattle.network.specs.Crew.{Step, timesPerformed, slotBySteps, valueBySteps, Some, Hears}
 use Rattle.network.specs.Policy.{Policy, observe, heardBefore}
 use Rattle.network.proofs.Booleans.{by-test, clash, and-left, leb-is, ltb-yes, differs}
 use Rattle.network.proofs.MaskLaws.{bit-zero, bit-above}
@@ -259,18 +259,53 @@ ordered = (inl (omega arith), inr (refl, inl (omega arith)), inr (refl, inr (ref
 
 -- ---- crews: what is reported in slot 0 is heard from it in slot 1, and not before
 
+abbrev step : ℕ → ℕ → ℕ → ℕ → Step
+step t ps ch o = record { instruction = move t ps ch; report = o }
+
 abbrev followed : List Step
-followed = record { instruction = move 0 1 0; report = 1 } ∷ (record { instruction = move 1 2 0; report = 0 } ∷ [])
+followed = step 0 1 0 1 ∷ (step 1 2 0 0 ∷ [])
 
 pub heard-later : Some (Hears k4 1 0 true) followed × (¬ Some (Hears k4 0 0 true) followed)
 unfolding bit Some
 heard-later = (
   inl (omega arith, refl, refl),
   λ f. ⊎-elim
-      (λ (h : Hears k4 0 0 true (record { instruction = move 0 1 0; report = 1 })). let b = h .0 in omega arith)
-      (λ g. ⊎-elim (λ (h : Hears k4 0 0 true (record { instruction = move 1 2 0; report = 0 })). let b = h .0 in omega arith) (λ n. n) g)
+      (λ (h : Hears k4 0 0 true (step 0 1 0 1)). let b = h .0 in omega arith)
+      (λ g. ⊎-elim (λ (h : Hears k4 0 0 true (step 1 2 0 0)). let b = h .0 in omega arith) (λ n. n) g)
       f,
 )
+
+-- ---- what a crew performed and set, by its steps
+
+-- three points: decision 1 is disclosed by point 0, condition 0 by point 1
+abbrev crossed : Network
+crossed =
+    record { horizon = 3; points = 3; letters = 2; disclosing = λ l. cond (eqb l 0) 1 0; is-decision = mixed; constraints = [] }
+
+-- point 0 in slot 1, where decision 1 is set true; then point 1 in slot 2, and o is reported
+abbrev worked : ℕ → List Step
+worked o = step 1 1 2 0 ∷ (step 2 2 0 o ∷ [])
+
+-- both of them in slot 1, and again in slot 2 with the other values
+abbrev again : List Step
+again = step 1 3 2 0 ∷ (step 2 3 0 1 ∷ [])
+
+-- how often, and in which slot: that of the first step that performs the point, 0 where none does
+pub performed-by-steps :
+    (timesPerformed (worked 1) 0 ≡ 1) × (timesPerformed (worked 1) 1 ≡ 1) × (timesPerformed (worked 1) 2 ≡ 0)
+    × (timesPerformed again 0 ≡ 2) × (timesPerformed again 1 ≡ 2)
+    × (slotBySteps (worked 1) 0 ≡ 1) × (slotBySteps (worked 1) 1 ≡ 2) × (slotBySteps (worked 1) 2 ≡ 0)
+    × (slotBySteps again 0 ≡ 1) × (slotBySteps again 1 ≡ 1)
+unfolding bit timesPerformed slotBySteps
+performed-by-steps = (refl, refl, refl, refl, refl, refl, refl, refl, refl, refl)
+
+-- the values: set by the first step that discloses the letter, false where none does
+pub values-by-steps :
+    (valueBySteps crossed (worked 1) 0 ≡ true) × (valueBySteps crossed (worked 0) 0 ≡ false) × (valueBySteps crossed (worked 1) 1 ≡ true)
+    × (valueBySteps crossed (worked 0) 1 ≡ true) × (valueBySteps crossed again 0 ≡ false) × (valueBySteps crossed again 1 ≡ true)
+    × (valueBySteps crossed [] 0 ≡ false)
+unfolding bit valueBySteps
+values-by-steps = (refl, refl, refl, refl, refl, refl, refl)
 
 -- ---- a choice that uses the outcome of its own slot: a strategy for k10 that copies it is viable and not dynamic
 

@@ -16,5 +16,6 @@ pub mod FirstLaws
 pub mod SizeLaws
 pub mod PolicyLaws
 pub mod CrewLaws
+pub mod StepsLaws
 pub mod Cases
 pub mod Theorems

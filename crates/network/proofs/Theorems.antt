@@ -12,13 +12,15 @@ use Rattle.network.specs.Tree.{Tree, Sound, Shaped, Wins, strategyOf, no
 use Rattle.network.specs.FirstMoves.{CanBeWon, FirstMoves, SameTree}
 use Rattle.network.specs.Search.{firstTree, hopeless}
 use Rattle.network.specs.Policy.{Policy, SucceedsAlways}
-use Rattle.network.specs.Crew.{Step, Follows, AtEnd, stateAfter, HeardAlike, ToldAlike}
+use Rattle.network.specs.Crew.{Step, Follows, AtEnd, stateAfter, timesPerformed, slotBySteps, valueBySteps, HeardAlike, ToldAlike}
 use Rattle.network.proofs.NetworkLaws as network
 use Rattle.network.proofs.TreeStrategy as tree
 use Rattle.network.proofs.FirstLaws as first
 use Rattle.network.proofs.SizeLaws as size
 use Rattle.network.proofs.PolicyLaws as policy
+use Rattle.network.proofs.GameLaws as game
 use Rattle.network.proofs.CrewLaws as crew
+use Rattle.network.proofs.StepsLaws as steps
 
 module _ (net : Network) (wf : IsNetwork net) where
   -- Before the theorems: the label test and `keeps`, in document 01's words. A label holds when each letter in "need" has the value that
@@ -89,6 +91,19 @@ module _ (net : Network) (wf : IsNetwork net) where
       (t : Tree) → Wins net t → (log : List Step) → Follows net t log → AtEnd t log →
       Over net (stateAfter net (start net) log) × Kept net (stateAfter net (start net) log)
   crew-at-end t w log fo en = crew.run-ends net wf (Kept net) t (start net) log w fo en
+
+  -- .. and the same of its steps alone: each point was performed exactly once, within the horizon, and every relevant constraint was kept.
+  pub crew-kept :
+      (t : Tree) → Wins net t → (log : List Step) → Follows net t log → AtEnd t log →
+      ((x : ℕ) → x < net .points → (timesPerformed log x ≡ 1) × (slotBySteps log x ≤ net .horizon))
+      × (keeps net (slotBySteps log) (valueBySteps net log) ≡ true)
+  crew-kept t w log fo en = (
+    λ x lt. let left = game.all-left net x lt in (
+      steps.once net wf (Kept net) t (start net) log x w fo en lt left,
+      steps.slot-is net wf (Kept net) t (start net) log x w fo en lt left .1,
+    ),
+    steps.steps-kept net wf t w log fo en,
+  )
 
   -- Theorem 6. Two crews on one tree that heard alike before a slot, both at the end, were told alike in it.
   pub heard-alike-told-alike :

@@ -1,11 +1,12 @@
--- Definitions: a crew on a tree: the steps that it followed, what it heard and was told. A reader must believe this file.
+-- Definitions: a crew on a tree: the steps that it followed; what it performed and set by them, what it heard and was told. A reader must
+-- believe this file.
 use mathlib.Core.Path.{_≡_}
 use mathlib.Core.Logic.{_↔_, _⊎_}
 use mathlib.Core.List.{List, [], _∷_}
-use mathlib.Core.Bool.{Bool, true}
-use Prim.Native.Nat.{ℕ, _<_}
-use Rattle.network.specs.Mask.{bit}
-use Rattle.network.specs.Network.{Network}
+use mathlib.Core.Bool.{Bool, true, false, cond}
+use Prim.Native.Nat.{ℕ, _+_, _<_}
+use Rattle.network.specs.Mask.{bit, digit}
+use Rattle.network.specs.Network.{Network, Scenario, Schedule, combined}
 use Rattle.network.specs.Game.{State, Move, hears, Outcome, after}
 use Rattle.network.specs.Tree.{Tree, done, node}
 
@@ -31,6 +32,22 @@ AtEnd (node m next) (st ∷ log) = AtEnd (next (st .report)) log
 unfoldable pub stateAfter : Network → State → List Step → State
 stateAfter net s [] = s
 stateAfter net s (st ∷ log) = stateAfter net (after net s (st .instruction) (st .report)) log
+
+-- A step performs the points of its instruction in its slot. How often x was performed; the slot of the first step that performed it.
+unfoldable pub timesPerformed : List Step → ℕ → ℕ
+timesPerformed [] x = 0
+timesPerformed (st ∷ log) x = digit (bit (st .instruction .points) x) + timesPerformed log x
+
+unfoldable pub slotBySteps : List Step → Schedule
+slotBySteps [] x = 0
+slotBySteps (st ∷ log) x = cond (bit (st .instruction .points) x) (st .instruction .slot) (slotBySteps log x)
+
+-- The values so set: of the letters that a step's points disclose, its choices set the decisions and its report the conditions.
+unfoldable pub valueBySteps : Network → List Step → Scenario
+valueBySteps net [] l = false
+valueBySteps net (st ∷ log) l =
+    cond (bit (st .instruction .points) (net .disclosing l)) (combined net (st .report) (st .instruction .choices) l)
+    (valueBySteps net log l)
 
 -- some step has P
 unfoldable pub Some : (Step → Type 0) → List Step → Type 0
