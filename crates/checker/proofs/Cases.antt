@@ -24,7 +24,7 @@ abbrev pub k4-tree : List ℕ
 k4-tree = 0 ∷ 1 ∷ 0 ∷ 2 ∷ 2 ∷ 0 ∷ 1 ∷ 2 ∷ 0 ∷ []
 
 -- its children exchanged; a child in slot 0
-abbrev k11-tree : List ℕ
+abbrev pub k11-tree : List ℕ
 k11-tree = 0 ∷ 1 ∷ 0 ∷ 1 ∷ 2 ∷ 0 ∷ 2 ∷ 2 ∷ 0 ∷ []
 
 abbrev k12-tree : List ℕ

@@ -59,7 +59,7 @@ kept-exactly net (node m next) s sd = (
 
 -- ---- a node, and subtrees each of which is found, whatever stands behind it
 
-subtrees-found :
+pub subtrees-found :
     (sub : ℕ → List ℕ → Checked) (m : Move) (piece : ℕ → List ℕ) (n : ℕ → ℕ) (b : ℕ → Bool) →
     ((k : ℕ) → length (piece k) ≡ 3 * n k) → ((k : ℕ) (u : List ℕ) → sub k (piece k ++ u) ≡ checked.Sound (n k) (b k)) →
     (k : ℕ) (u : List ℕ) →

@@ -56,7 +56,7 @@ module _ (p : Plan) (wf : WellFormed p) (bs : List ℕ) where
   described-length : (t : Tree) → Describes net bs t → length bs ≡ 3 * nodes net t
   described-length t d = ap length (d .all-bytes) ∙ tree-length net t
 
-  described-found : (t : Tree) → Describes net bs t → subtreeAt p (start net) bs ≡ checked.Sound (nodes net t) (allKept net t (start net))
+  pub described-found : (t : Tree) → Describes net bs t → subtreeAt p (start net) bs ≡ checked.Sound (nodes net t) (allKept net t (start net))
   described-found t d =
       ap (subtreeAt p (start net)) (d .all-bytes ∙ sym (append-nil (treeBytes net t)))
       ∙ complete p wf t _ (start net) [] (start-inside net) (omega arith) (d .shaped)

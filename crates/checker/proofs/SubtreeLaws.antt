@@ -91,7 +91,7 @@ module _ (p : Plan) (sub : State → List ℕ → Checked) (s : State) (bs : Lis
 
 -- ---- what is found lies within the bytes
 
-within-bytes :
+pub within-bytes :
     (sub : ℕ → List ℕ → Checked) →
     ((k : ℕ) (bs : List ℕ) (n : ℕ) (b : Bool) → sub k bs ≡ checked.Sound n b → 3 * n ≤ length bs) → (bs : List ℕ) →
     3 ≤ length bs → (k n : ℕ) (b : Bool) → withSubtrees sub bs k ≡ checked.Sound n b → 3 * n ≤ length bs

@@ -18,7 +18,7 @@ pub enum Checked {
 }
 
 // The subtree at the front of the bytes, below a path that stands at this position. With each level fewer points are left.
-fn subtree(plan: Plan, nodes: &[u8], at: Position) -> Checked
+pub fn subtree(plan: Plan, nodes: &[u8], at: Position) -> Checked
     requires { ⌜ WellFormed plan × Proper plan at ⌝ }
     ensures { λ r. ⌜ r ≡ subtreeAt plan (stateOf plan at) (now (nodes .entry)) ⌝ }
 {

@@ -3,7 +3,7 @@ use mathlib.Core.Bool.{Bool, _&&_}
 use mathlib.Core.List.{List, [], _∷_}
 use Prim.Native.Nat.{ℕ, _+_, _*_, _/_, _%_}
 use lib.Dec.{leb, eqb}
-use lib.ListN.{length, getD, drop}
+use lib.ListN.{length, getD, take, drop}
 use Rattle.tree.specs.declared.Node.{Node}
 
 -- the most nodes that a tree has, and the bytes that they take
@@ -29,9 +29,12 @@ nodeBytes v = v .slot ∷ v .points ∷ v .choices ∷ []
 abbrev pub nodeAt : List ℕ → ℕ → Node
 nodeAt bs k = record { slot = getD bs (3 * k) 0; points = getD bs (3 * k + 1) 0; choices = getD bs (3 * k + 2) 0 }
 
--- whether a whole node stands at the front, and the bytes from node k on
+-- whether a whole node stands at the front; the bytes of the first k nodes, and those from node k on
 abbrev pub hasNode : List ℕ → Bool
 hasNode bs = leb 3 (length bs)
+
+abbrev pub firstNodes : List ℕ → ℕ → List ℕ
+firstNodes bs k = take (3 * k) bs
 
 abbrev pub fromNode : List ℕ → ℕ → List ℕ
 fromNode bs k = drop (3 * k) bs
