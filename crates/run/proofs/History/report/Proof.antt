@@ -1,0 +1,74 @@
+-- By the laws of what reporting answers. Only the checker need believe this file.
+use mathlib.Core.Path.{_≡_, refl, sym, ap, _∙_}
+use borrow.Author.Needs.{needs}
+use lib.ListN.{length}
+use Rattle.network.proofs.Booleans.{denied, granted}
+use Rattle.run.specs.Run.{instruct, mayReport, instructed, shownTold, showAnswer}
+use Rattle.run.proofs.ToldLaws.{room-for-one}
+use Rattle.run.proofs.AnswerLaws.{report-refused, report-after-done, report-outside, report-inside}
+use Rattle.run.proofs.History.report.Statement.{statement}
+use Rattle.run.proofs.History.report.Tie as tie
+
+long : (c : tie.Start) → length (c .args .self .masks) ≡ 8
+long c = search needs
+
+-- an instruction is told
+told : (c : tie.After-shown2) → let a = c .before .before .before .before .args in instruct (instructed (c .shown2 .given .0 .0)) ≡ showAnswer (a .plan) (a .nodes .now) (a .self)
+told c = sym (ap shownTold (c .shown2 .given .1)) ∙ c .before .before .show .ensures
+
+may-be : (c : tie.After-subset) → c .subset .result ≡ mayReport (c .before .before .before .before .before .before .before .args .plan) (instructed (c .before .before .before .shown2 .given .0 .0)) (c .before .before .before .before .before .before .before .args .mask)
+may-be c = c .subset .ensures ∙ rw (c .before .heard .ensures) refl
+
+show-requires : tie.Need-show-requires
+show-requires c κs = search needs
+
+enum-known-shown : tie.Need-enum-known-shown
+enum-known-shown c = search needs
+
+enum-told : tie.Need-enum-told
+enum-told c = search needs
+
+enum-known-shown-2 : tie.Need-enum-known-shown-2
+enum-known-shown-2 c = search needs
+
+heard-requires : tie.Need-heard-requires
+heard-requires c κs = search needs
+
+subset-requires : tie.Need-subset-requires
+subset-requires c κs = search needs
+
+returns : tie.Need-returns
+returns c =
+    report-outside _ _ _ _ _ (told (c .before .before .before .before)) (denied (may-be (c .before)) (c .if1 .taken))
+
+with-mask-requires : tie.Need-with-mask-requires
+with-mask-requires c κs =
+    room-for-one _ _ _ _ (long (c .before .before .before .before .before .before .before .before)) (sym (told (c .before .before .before .before)))
+
+returns-2 : tie.Need-returns-2
+returns-2 c =
+    report-refused _ _ _ _ (c .before .shown .given .0 .0) (sym (ap shownTold (c .before .shown .given .1)) ∙ c .before .before .before .show .ensures)
+
+returns-3 : tie.Need-returns-3
+returns-3 c =
+    report-after-done _ _ _ _ (sym (ap shownTold (c .enum-told .given .1)) ∙ c .before .before .show .ensures)
+
+returns-4 : tie.Need-returns-4
+returns-4 c =
+    rw (c .with-mask .ensures) (report-inside _ _ _ _ _ (told (c .before .before .before .before .before)) (granted (may-be (c .before .before)) (c .before .if1 .left)))
+
+pub report-spec : {M : Type 1} → statement M
+report-spec =
+    tie.close
+    (tie.spec
+    show-requires
+    enum-known-shown
+    enum-told
+    enum-known-shown-2
+    heard-requires
+    subset-requires
+    returns
+    with-mask-requires
+    returns-2
+    returns-3
+    returns-4)
