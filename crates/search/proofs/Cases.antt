@@ -44,7 +44,7 @@ the-answer : Unit {0}
 unfolding unless first answered movesBytes searchFault searchLeaves
 the-answer = tt
 
-computing : Unit {0}
+unfoldable pub computing : Unit {0}
 unfolding masks-and-networks the-game the-plan the-answer
 computing = tt
 

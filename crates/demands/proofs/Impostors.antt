@@ -1,0 +1,343 @@
+-- Impostors: planners that document 01 won't take, and more. None meets demand 3; a comment says which part of it each one breaks. Read
+-- the planners and the statements; only the checker need believe the proofs.
+use mathlib.Core.Path.{_≡_, refl, sym, ap, _∙_, subst}
+use mathlib.Core.Logic.{inl, inr}
+use mathlib.Core.List.{List, [], _∷_}
+use mathlib.Core.Bool.{true, false, cond}
+use Prim.Native.Nat.{ℕ, zero, suc, _≤_, _<_}
+use native.Mathlib.Omega.{arith}
+use lib.Bits.{bitAnd}
+use lib.Dec.{eqb}
+use lib.ListN.{length, getD, replicate}
+use Rattle.network.specs.Mask.{mask}
+use Rattle.network.specs.Network.{condition, keeps}
+use Rattle.network.specs.Strategy.{DynamicallyConsistent}
+use Rattle.network.specs.Game.{start, Move, hears}
+use Rattle.network.specs.Search.{firstTree}
+use Rattle.network.specs.Crew.{Step, timesPerformed, slotBySteps, valueBySteps, Some, Hears, HeardAlike, ToldAlike}
+use Rattle.network.proofs.Booleans.{clash, and-left, ltb-is}
+use Rattle.plan.specs.declared.Plan.{Plan}
+use Rattle.plan.specs.declared.Refusal.the-variants as refusal
+use Rattle.plan.specs.Refusal.{refusalNumber}
+use Rattle.plan.specs.Answer.{unless, Answer, fine}
+use Rattle.plan.specs.Plan.{networkOf}
+use Rattle.plan.specs.Letters.{heardBy}
+use Rattle.plan.specs.WellFormed.{WellFormed}
+use Rattle.plan.proofs.Cases.{letter, constraint, plan, one-point}
+use Rattle.masks.specs.Masks.{inside}
+use Rattle.judge.proofs.WellFormedLaws as judge
+use Rattle.tree.specs.Nodes.{mostBytes}
+use Rattle.tree.specs.Trees.{treeBytes}
+use Rattle.checker.proofs.Cases.{never}
+use Rattle.search.specs.Search.{searchFault, searchAnswer, overwritten, searchLeaves}
+use Rattle.search.proofs.SearchTheorems.{first-moves, fine-exactly}
+use Rattle.search.proofs.Cases.{computing}
+use Rattle.run.specs.declared.History.{History}
+use Rattle.run.specs.History.{emptyHistory, reportsIn, longer}
+use Rattle.run.specs.Run.{Told, instruct, complete, refuse, toldFrom, showAnswer, reportFault, reportAnswer}
+use Rattle.run.proofs.Cases.{move}
+use Rattle.following.specs.Calls.{Planner, Call, reporting}
+use Rattle.demands.specs.Demand3.{Hopeless, madeTree, stepsAfter, toldAfter, EveryTwoLists, Demand3For, Demand3}
+use Rattle.demands.proofs.Cases.{calling, step}
+
+-- ---- What the refutations share
+
+-- a lent buffer: 573 bytes, none of them a byte of the trees below
+abbrev lent : List ℕ
+lent = replicate 573 9
+
+room : mostBytes ≤ length lent
+room = omega arith
+
+-- a plan that gets no fault is not refused as hopeless
+hopeful : (P : Planner) (p : Plan) → P .searches p lent .fault ≡ 0 → ¬ Hopeless P p lent
+hopeful P p e h = let z : _≡_ {A = ℕ} 0 11 = sym e ∙ h in omega arith
+
+-- who is refused is neither instructed nor done
+not-instructed : {t : Told} {n : ℕ} {m : Move} → t ≡ refuse n → t ≡ instruct m → ⊥
+not-instructed r i = let z : _≡_ {A = ℕ} 0 1 = cc in omega arith
+
+not-done : {t : Told} {n : ℕ} → t ≡ refuse n → t ≡ complete → ⊥
+not-done r c = let z : _≡_ {A = ℕ} 0 1 = cc in omega arith
+
+-- The walk breaks where the tree that was made is refused: the crew is not done, and its history cannot be lengthened.
+no-walk :
+    (P : Planner) (p : Plan) → P .searches p lent .fault ≡ 0 → (n : ℕ) → toldAfter P p (madeTree P p lent) [] ≡ refuse n →
+    Demand3For P p lent → ⊥
+no-walk P p e n r d = not-instructed r (d .every-list (hopeful P p e) [] .goes-on (not-done r) .is-told)
+
+-- a report that gets this fault: without one the longer history is handed back, else the one that was given
+abbrev reportedBy : ℕ → History → ℕ → Answer History
+reportedBy n h o = record { fault = n; value = cond (eqb n 0) (longer h o) h }
+
+-- ---- K1: horizon 3, one point, nothing else
+
+abbrev k1 : Plan
+k1 = one-point []
+
+abbrev k1-bytes : List ℕ
+k1-bytes = 0 ∷ 1 ∷ 0 ∷ []
+
+k1-fine : WellFormed k1
+unfolding computing
+k1-fine = judge.fine-exactly k1 .0 refl
+
+k1-answer : (searchFault k1 lent ≡ 0) × (searchAnswer k1 lent ≡ fine 1) × (treeBytes (networkOf k1) (firstTree (networkOf k1)) ≡ k1-bytes)
+unfolding computing
+k1-answer = (refl, refl, refl)
+
+k1-consistent : DynamicallyConsistent (networkOf k1)
+k1-consistent = fine-exactly k1 lent k1-fine room .0 (k1-answer .0)
+
+-- this planner finds no fault in it
+k1-no-fault : searchAnswer k1 lent .fault ≡ 0
+k1-no-fault = ap (λ (x : Answer ℕ). x .fault) (k1-answer .1)
+
+-- ---- A search that calls every plan hopeless, or says 11 before looking. It breaks part 1: K1 has a strategy.
+
+abbrev pub always-hopeless : Planner
+always-hopeless =
+    record {
+      searches = λ p xs. record { fault = refusalNumber refusal.Hopeless; value = 0 };
+      leaves = λ p xs. overwritten [] xs;
+      shows = showAnswer;
+      reports = reportAnswer;
+    }
+
+pub always-hopeless-fails : ¬ Demand3 always-hopeless
+always-hopeless-fails d = d k1 lent k1-fine room .hopeless-exactly .0 refl k1-consistent
+
+-- ---- A search that leaves the buffer alone. It breaks part 3: the bytes are not those of K1's tree.
+
+abbrev pub buffer-alone : Planner
+buffer-alone = record { searches = searchAnswer; leaves = λ p xs. xs; shows = showAnswer; reports = reportAnswer }
+
+pub buffer-alone-fails : ¬ Demand3 buffer-alone
+buffer-alone-fails d =
+    let fine = hopeful buffer-alone k1 k1-no-fault in
+    let gets = d k1 lent k1-fine room .gets-tree fine (firstTree (networkOf k1)) (first-moves k1 lent (k1-answer .0)) in
+    let same : lent ≡ overwritten k1-bytes lent = gets .bytes ∙ ap (λ (x : List ℕ). overwritten x lent) (k1-answer .2) in
+    let z : _≡_ {A = ℕ} 9 0 = ap (λ (x : List ℕ). getD x 0 0) same in
+    omega arith
+
+-- .. and the walk, part 4: over the bytes that were lent the crew is refused at once.
+buffer-alone-told : toldAfter buffer-alone k1 (madeTree buffer-alone k1 lent) [] ≡ refuse 6
+unfolding computing calling
+buffer-alone-told = refl
+
+pub buffer-alone-fails-walking : ¬ Demand3 buffer-alone
+buffer-alone-fails-walking d = no-walk buffer-alone k1 k1-no-fault 6 buffer-alone-told (d k1 lent k1-fine room)
+
+-- ---- A search that hands out the same tree each time. It breaks the walk, part 4: where that tree breaks a constraint of the plan that
+-- was handed in, the crew is refused at once, so it is not done and cannot go on.
+
+abbrev pub same-tree : Planner
+same-tree =
+    record { searches = λ p xs. fine 1; leaves = λ p xs. overwritten k1-bytes xs; shows = showAnswer; reports = reportAnswer }
+
+-- one point and decision 0 at it, which must be true
+abbrev decided : Plan
+decided = plan 3 1 (letter 0 1 ∷ []) (never 0 ∷ [])
+
+decided-fine : WellFormed decided
+unfolding computing
+decided-fine = judge.fine-exactly decided .0 refl
+
+same-tree-told : toldAfter same-tree decided (madeTree same-tree decided lent) [] ≡ refuse 7
+unfolding calling
+same-tree-told = refl
+
+pub same-tree-fails : ¬ Demand3 same-tree
+same-tree-fails d = no-walk same-tree decided refl 7 same-tree-told (d decided lent decided-fine room)
+
+-- .. even where its run doesn't check the tree: then it breaks part 5, as the crew is led past that plan's constraint.
+abbrev toldUnchecked : Plan → List ℕ → History → Told
+toldUnchecked p tree h = toldFrom p (start (networkOf p)) tree (reportsIn h)
+
+abbrev pub same-tree-unchecked : Planner
+same-tree-unchecked =
+    record {
+      searches = λ p xs. fine 1;
+      leaves = λ p xs. overwritten k1-bytes xs;
+      shows = toldUnchecked;
+      reports = λ p tree h o. reportedBy (reportFault p (toldUnchecked p tree h) o) h o;
+    }
+
+abbrev unchecked-steps : List Step
+unchecked-steps = step (move 0 1 0) 0 ∷ []
+
+unchecked-run :
+    let tree = madeTree same-tree-unchecked decided lent in
+    (stepsAfter same-tree-unchecked decided tree (reporting 0 ∷ []) ≡ unchecked-steps)
+    × (toldAfter same-tree-unchecked decided tree (reporting 0 ∷ []) ≡ complete)
+unfolding calling
+unchecked-run = (refl, refl)
+
+unchecked-breaks :
+    keeps (networkOf decided) (slotBySteps unchecked-steps) (valueBySteps (networkOf decided) unchecked-steps) ≡ false
+unfolding calling slotBySteps valueBySteps
+unchecked-breaks = refl
+
+pub same-tree-unchecked-fails : ¬ Demand3 same-tree-unchecked
+same-tree-unchecked-fails d =
+    let all = d decided lent decided-fine room .every-list (hopeful same-tree-unchecked decided refl) (reporting 0 ∷ []) in
+    let kept = all .constraints-held (unchecked-run .1) in
+    clash (rw (unchecked-run .0) at kept) unchecked-breaks
+
+-- ---- A search whose number of nodes doesn't match the bytes. It breaks the walk, part 4: the tree earns 6.
+
+abbrev pub wrong-count : Planner
+wrong-count =
+    record {
+      searches = λ p xs. record { fault = searchAnswer p xs .fault; value = suc (searchAnswer p xs .value) };
+      leaves = searchLeaves;
+      shows = showAnswer;
+      reports = reportAnswer;
+    }
+
+wrong-count-told : toldAfter wrong-count k1 (madeTree wrong-count k1 lent) [] ≡ refuse 6
+unfolding computing calling
+wrong-count-told = refl
+
+pub wrong-count-fails : ¬ Demand3 wrong-count
+wrong-count-fails d = no-walk wrong-count k1 k1-no-fault 6 wrong-count-told (d k1 lent k1-fine room)
+
+-- ---- A run that says done early. It breaks part 5: after no call at all it is done, and point 0 was never performed.
+
+abbrev pub done-early : Planner
+done-early = record { searches = searchAnswer; leaves = searchLeaves; shows = λ p tree h. complete; reports = reportAnswer }
+
+pub done-early-fails : ¬ Demand3 done-early
+unfolding calling timesPerformed
+done-early-fails d =
+    let all = d k1 lent k1-fine room .every-list (hopeful done-early k1 k1-no-fault) [] in
+    let z : _≡_ {A = ℕ} 0 1 = all .performed-once refl 0 (omega arith) in
+    omega arith
+
+-- ---- A run that tells the whole path at its first report and merely repeats later. That report may name any of the plan's conditions,
+-- heard in that move or not; the path is then the one of this scenario, whatever the later reports say. It breaks part 6: two crews that
+-- heard alike before a slot are told different things in it.
+
+-- the history behind the next instruction, and behind the next n, where this scenario comes
+abbrev foreseen : Plan → ℕ → History → Told → History
+foreseen p cs h (instruct m) = longer h (bitAnd cs (heardBy p (m .points)))
+foreseen p cs h complete = h
+foreseen p cs h (refuse n) = h
+
+unfoldable pub foresee : Plan → List ℕ → ℕ → ℕ → History → History
+foresee p tree zero cs h = h
+foresee p tree (suc n) cs h = foresee p tree n cs (foreseen p cs h (showAnswer p tree h))
+
+-- what it tells: the instruction that comes after as many reports where the scenario is the first report
+abbrev toldAhead : Plan → List ℕ → History → Told
+toldAhead p tree h = showAnswer p tree (foresee p tree (h .count) (getD (h .masks) 0 0) emptyHistory)
+
+-- the first report may name any condition; a later one is judged as ever
+abbrev faultAhead : Plan → List ℕ → History → ℕ → ℕ
+faultAhead p tree h o =
+    let whole = unless (inside o (mask 6 (condition (networkOf p)))) refusal.Mask in
+    let one = reportFault p (toldAhead p tree h) o in
+    cond (eqb (h .count) 0) whole one
+
+abbrev pub whole-path : Planner
+whole-path =
+    record {
+      searches = searchAnswer;
+      leaves = searchLeaves;
+      shows = toldAhead;
+      reports = λ p tree h o. reportedBy (faultAhead p tree h o) h o;
+    }
+
+-- K4 with a free point before its two: condition 0 at point 1; where it is true, point 2 at most 1 after point 1, else at least 2 after it
+abbrev late : Plan
+late = plan 3 3 (letter 1 0 ∷ []) (constraint 1 2 1 1 1 ∷ constraint 2 1 65534 1 0 ∷ [])
+
+abbrev late-tree : List ℕ
+late-tree = 0 ∷ 1 ∷ 0 ∷ 1 ∷ 2 ∷ 0 ∷ 3 ∷ 4 ∷ 0 ∷ 2 ∷ 4 ∷ 0 ∷ []
+
+late-fine : WellFormed late
+unfolding computing
+late-fine = judge.fine-exactly late .0 refl
+
+late-made : (searchAnswer late lent .fault ≡ 0) × (madeTree whole-path late lent ≡ late-tree)
+unfolding computing
+late-made = (refl, refl)
+
+-- Two crews: the first report of one says that condition 0 is false, that of the other that it is true. Both hear of it at point 1, and
+-- both report there that it is false.
+abbrev false-first : List Call
+false-first = reporting 0 ∷ reporting 0 ∷ reporting 0 ∷ []
+
+abbrev true-first : List Call
+true-first = reporting 1 ∷ reporting 0 ∷ reporting 0 ∷ []
+
+abbrev false-steps : List Step
+false-steps = step (move 0 1 0) 0 ∷ step (move 1 2 0) 0 ∷ step (move 3 4 0) 0 ∷ []
+
+abbrev true-steps : List Step
+true-steps = step (move 0 1 0) 1 ∷ step (move 1 2 0) 0 ∷ step (move 2 4 0) 0 ∷ []
+
+both-done : (toldAfter whole-path late late-tree false-first ≡ complete) × (toldAfter whole-path late late-tree true-first ≡ complete)
+unfolding calling foresee
+both-done = (refl, refl)
+
+both-steps :
+    (stepsAfter whole-path late late-tree false-first ≡ false-steps) × (stepsAfter whole-path late late-tree true-first ≡ true-steps)
+unfolding calling foresee
+both-steps = (refl, refl)
+
+-- the first move hears nothing
+nothing-heard : (l : ℕ) → hears (networkOf late) (move 0 1 0) l ≡ true → ⊥
+unfolding calling
+nothing-heard zero e = clash e refl
+nothing-heard (suc l) e = let z : suc l < 1 = ltb-is (suc l) 1 (and-left _ _ (and-left _ _ e)) in omega arith
+
+-- before slot 2 they heard alike ..
+heard-alike : HeardAlike (networkOf late) false-steps true-steps 2
+unfolding Some
+heard-alike l v = (there, back)
+  where
+    there : Some (Hears (networkOf late) 2 l v) false-steps → Some (Hears (networkOf late) 2 l v) true-steps
+    there (inl h) = absurd (nothing-heard l (h .1))
+    there (inr (inl h)) = inr (inl h)
+    there (inr (inr (inl h))) = let z : 3 < 2 = h .0 in absurd (omega arith)
+    there (inr (inr (inr none))) = absurd none
+
+    back : Some (Hears (networkOf late) 2 l v) true-steps → Some (Hears (networkOf late) 2 l v) false-steps
+    back (inl h) = absurd (nothing-heard l (h .1))
+    back (inr (inl h)) = inr (inl h)
+    back (inr (inr (inl h))) = let z : 2 < 2 = h .0 in absurd (omega arith)
+    back (inr (inr (inr none))) = absurd none
+
+-- .. and in it the second crew was told point 2, the first one nothing
+none-told : (m : Move) → m .slot ≡ 2 → Some (λ st. st .instruction ≡ m) false-steps → ⊥
+unfolding Some
+none-told m two (inl e) = let z : _≡_ {A = ℕ} 0 2 = ap (λ (x : Move). x .slot) e ∙ two in omega arith
+none-told m two (inr (inl e)) = let z : _≡_ {A = ℕ} 1 2 = ap (λ (x : Move). x .slot) e ∙ two in omega arith
+none-told m two (inr (inr (inl e))) = let z : _≡_ {A = ℕ} 3 2 = ap (λ (x : Move). x .slot) e ∙ two in omega arith
+none-told m two (inr (inr (inr none))) = absurd none
+
+not-told-alike : ¬ ToldAlike false-steps true-steps 2
+unfolding Some
+not-told-alike (inl same) = none-told (same .0) (same .1) (same .2)
+not-told-alike (inr neither) = neither .1 (inr (inr (inl refl)))
+
+late-lists : Demand3 whole-path → EveryTwoLists whole-path late late-tree
+late-lists d = rw (late-made .1) at (d late lent late-fine room .every-two-lists (hopeful whole-path late (late-made .0)))
+
+pub whole-path-fails : ¬ Demand3 whole-path
+whole-path-fails d =
+    let alike = late-lists d false-first true-first (both-done .0) (both-done .1) 2 in
+    not-told-alike ((rw (both-steps .0, both-steps .1) at alike) heard-alike)
+
+-- ---- A run that accepts any report. It breaks part 4: after nine reports the history holds nine.
+
+abbrev pub any-report : Planner
+any-report = record { searches = searchAnswer; leaves = searchLeaves; shows = showAnswer; reports = λ p tree h o. fine (longer h o) }
+
+pub any-report-fails : ¬ Demand3 any-report
+unfolding calling
+any-report-fails d =
+    let all = d k1 lent k1-fine room .every-list (hopeful any-report k1 k1-no-fault) (replicate 9 (reporting 0)) in
+    let z : 9 ≤ 8 = all .at-most-8 in
+    omega arith
