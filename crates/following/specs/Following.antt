@@ -1,12 +1,15 @@
 -- Definitions: a list of calls as bytes, and what following it hands back. A reader must believe this file.
+use mathlib.Core.Path.{_≡_}
 use mathlib.Core.List.{List, [], _∷_, _++_, map}
-use Prim.Native.Nat.{ℕ, zero, suc, _-_}
-use lib.ListN.{length, replicate}
+use Prim.Native.Nat.{ℕ, zero, suc, _+_, _-_}
+use lib.ListN.{length, set, replicate}
 use Rattle.network.specs.Crew as crew
+use Rattle.plan.specs.declared.Plan.{Plan}
 use Rattle.run.specs.declared.Instruction.{Instruction}
+use Rattle.run.specs.declared.History.{History}
 use Rattle.following.specs.declared.Step.{Step}
 use Rattle.following.specs.declared.Followed.{Followed}
-use Rattle.following.specs.Calls.{Call, showing, reporting, Progress}
+use Rattle.following.specs.Calls.{planner, Call, showing, reporting, Progress, afterCall}
 
 -- Two bytes are a call: 0 and any byte is a showing; another byte and a mask is the reporting of that mask. A last byte by itself is none.
 abbrev pub callOf : ℕ → ℕ → Call
@@ -29,10 +32,20 @@ stepRecord st =
       report = st .report;
     }
 
-abbrev pub followedRecord : Progress → Followed
+unfoldable pub followedRecord : Progress → Followed
 followedRecord r =
     record {
       history = r .history;
       count = length (r .steps);
       steps = map stepRecord (r .steps) ++ replicate (8 - length (r .steps)) zeroStep;
     }
+
+-- the record with one step more, and the history then
+abbrev pub oneStepMore : Followed → History → Instruction → ℕ → Followed
+oneStepMore f h v o =
+    record { history = h; count = f .count + 1; steps = set (f .steps) (f .count) (record { instruction = v; report = o }) }
+
+-- r records what a call leaves, wherever f records how far the crew had come
+abbrev pub AfterCall : Plan → List ℕ → Followed → ℕ → ℕ → Followed → Type 0
+AfterCall p tree f kind o r =
+    (progress : Progress) → f ≡ followedRecord progress → r ≡ followedRecord (afterCall planner p tree progress (callOf kind o))
