@@ -37,8 +37,8 @@ use Rattle.run.specs.History.{emptyHistory, reportsIn, longer}
 use Rattle.run.specs.Run.{Told, instruct, complete, refuse, toldFrom, showAnswer, reportFault, reportAnswer}
 use Rattle.run.proofs.Cases.{move}
 use Rattle.following.specs.Calls.{Planner, Call, reporting}
+use Rattle.following.proofs.Cases.{calling, step}
 use Rattle.demands.specs.Demand3.{Hopeless, madeTree, stepsAfter, toldAfter, EveryTwoLists, Demand3For, Demand3}
-use Rattle.demands.proofs.Cases.{calling, step}
 
 -- ---- What the refutations share
 

@@ -8,6 +8,7 @@ use plan::letters;
 ghost use mathlib.Core.Path.{_≡_};
 ghost use Prim.Native.Nat.{_<_};
 ghost use Rattle.run.specs.History.{emptyHistory, historyFine, longer};
+ghost use Rattle.plan.specs.Refusal.{refusalNumber};
 ghost use Rattle.run.specs.Run.{shownTold, showAnswer, reportedAnswer, reportAnswer};
 
 // What a crew does next: these points in this slot, with these choices.
@@ -77,6 +78,16 @@ impl History {
         next
     }
 
+    // A report that is refused: the history is handed back as it was given.
+    fn refused(self, r: Refusal) -> Reported
+        ensures { λ x. ⌜ reportedAnswer x ≡ record { fault = refusalNumber r; value = self } ⌝ }
+    {
+        Reported {
+            answer: Judged::Refused(r),
+            history: self,
+        }
+    }
+
     // The longer history, where the mask may be reported at this one; else the first of 2, 3, 4 (the plan), 6, 7 (the tree), 8, 9, with
     // this history. Any plan, any bytes, any history, any mask.
     pub fn report(self, plan: Plan, nodes: &[u8], mask: u8) -> Reported
@@ -84,20 +95,11 @@ impl History {
     {
         let shown = show(plan, nodes, self);
         match shown {
-            Shown::Refused(r) => Reported {
-                answer: Judged::Refused(r),
-                history: self,
-            },
-            Shown::Done => Reported {
-                answer: Judged::Refused(Refusal::AfterDone),
-                history: self,
-            },
+            Shown::Refused(r) => self.refused(r),
+            Shown::Done => self.refused(Refusal::AfterDone),
             Shown::Instruct(v) => {
                 if !masks::subset(mask, letters::heard(plan, v.points)) {
-                    return Reported {
-                        answer: Judged::Refused(Refusal::Mask),
-                        history: self,
-                    };
+                    return self.refused(Refusal::Mask);
                 }
                 Reported {
                     answer: Judged::Fine,

@@ -51,15 +51,15 @@ fn nodes_before(plan: Plan, nodes: &[u8], at: Position, mask: u8) -> usize
 fn told_here(nodes: &[u8], at: Position) -> Shown
     ensures { λ r. ⌜ shownTold r ≡ toldHere (at .left) (now (nodes .entry)) ⌝ }
 {
-    if at.left == 0 {
-        return Shown::Done;
+    if at.left != 0 {
+        let v = tree::node_at(nodes, 0);
+        return Shown::Instruct(Instruction {
+            slot: v.slot,
+            points: v.points,
+            choices: v.choices,
+        });
     }
-    let v = tree::node_at(nodes, 0);
-    Shown::Instruct(Instruction {
-        slot: v.slot,
-        points: v.points,
-        choices: v.choices,
-    })
+    Shown::Done
 }
 
 // What is told at the masks of a history: the walk follows them one by one, from the root.

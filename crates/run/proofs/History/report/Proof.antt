@@ -25,8 +25,14 @@ show-requires c κs = search needs
 enum-known-shown : tie.Need-enum-known-shown
 enum-known-shown c = search needs
 
+refused-requires : tie.Need-refused-requires
+refused-requires c κs = search needs
+
 enum-told : tie.Need-enum-told
 enum-told c = search needs
+
+refused-requires-2 : tie.Need-refused-requires-2
+refused-requires-2 c κs = search needs
 
 enum-known-shown-2 : tie.Need-enum-known-shown-2
 enum-known-shown-2 c = search needs
@@ -37,25 +43,25 @@ heard-requires c κs = search needs
 subset-requires : tie.Need-subset-requires
 subset-requires c κs = search needs
 
+refused-requires-3 : tie.Need-refused-requires-3
+refused-requires-3 c κs = search needs
+
 returns : tie.Need-returns
-returns c =
-    report-outside _ _ _ _ _ (told (c .before .before .before .before)) (denied (may-be (c .before)) (c .if1 .taken))
+returns c = c .refused3 .ensures ∙ report-outside _ _ _ _ _ (told (c .before .before .before .before .before)) (denied (may-be (c .before .before)) (c .before .if1 .taken))
 
 with-mask-requires : tie.Need-with-mask-requires
-with-mask-requires c κs =
-    room-for-one _ _ _ _ (long (c .before .before .before .before .before .before .before .before)) (sym (told (c .before .before .before .before)))
+with-mask-requires c κs = room-for-one _ _ _ _ (long (c .before .before .before .before .before .before .before .before)) (sym (told (c .before .before .before .before)))
 
 returns-2 : tie.Need-returns-2
 returns-2 c =
-    report-refused _ _ _ _ (c .before .shown .given .0 .0) (sym (ap shownTold (c .before .shown .given .1)) ∙ c .before .before .before .show .ensures)
+    let r = c .before .before .shown .given in
+    c .refused .ensures ∙ report-refused _ _ _ _ (r .0 .0) (sym (ap shownTold (r .1)) ∙ c .before .before .before .before .show .ensures)
 
 returns-3 : tie.Need-returns-3
-returns-3 c =
-    report-after-done _ _ _ _ (sym (ap shownTold (c .enum-told .given .1)) ∙ c .before .before .show .ensures)
+returns-3 c = c .refused2 .ensures ∙ report-after-done _ _ _ _ (sym (ap shownTold (c .before .enum-told .given .1)) ∙ c .before .before .before .show .ensures)
 
 returns-4 : tie.Need-returns-4
-returns-4 c =
-    rw (c .with-mask .ensures) (report-inside _ _ _ _ _ (told (c .before .before .before .before .before)) (granted (may-be (c .before .before)) (c .before .if1 .left)))
+returns-4 c = rw (c .with-mask .ensures) (report-inside _ _ _ _ _ (told (c .before .before .before .before .before)) (granted (may-be (c .before .before)) (c .before .if1 .left)))
 
 pub report-spec : {M : Type 1} → statement M
 report-spec =
@@ -63,10 +69,13 @@ report-spec =
     (tie.spec
     show-requires
     enum-known-shown
+    refused-requires
     enum-told
+    refused-requires-2
     enum-known-shown-2
     heard-requires
     subset-requires
+    refused-requires-3
     returns
     with-mask-requires
     returns-2

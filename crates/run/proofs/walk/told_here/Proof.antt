@@ -5,14 +5,14 @@ use Rattle.network.proofs.Booleans.{eqb-no}
 use Rattle.run.proofs.walk.told_here.Statement.{statement}
 use Rattle.run.proofs.walk.told_here.Tie as tie
 
-returns : tie.Need-returns
-returns c = rw (c .if1 .taken)
-
 node-at-requires : tie.Need-node-at-requires
 node-at-requires c κs = search needs
 
+returns : tie.Need-returns
+returns c = rw (eqb-no _ _ (c .before .if1 .taken), c .node-at .ensures)
+
 returns-2 : tie.Need-returns-2
-returns-2 c = rw (eqb-no _ _ (c .before .if1 .left), c .node-at .ensures)
+returns-2 c = rw (c .if1 .left)
 
 pub told-here-spec : {M : Type 1} → statement M
-told-here-spec = tie.close (tie.spec returns node-at-requires returns-2)
+told-here-spec = tie.close (tie.spec node-at-requires returns returns-2)
