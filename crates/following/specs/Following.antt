@@ -1,4 +1,5 @@
--- Definitions: a list of calls as bytes, and what following it hands back. A reader must believe this file.
+-- Definitions: a list of calls as bytes, and what following it hands back. A reader must believe this file, but for the last two definitions,
+-- which inner functions promise.
 use mathlib.Core.Path.{_≡_}
 use mathlib.Core.List.{List, [], _∷_, _++_, map}
 use Prim.Native.Nat.{ℕ, zero, suc, _+_, _-_}

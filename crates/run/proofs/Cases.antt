@@ -1,12 +1,14 @@
 -- Cases: document 01's K14 and more, by computing: what is told at a history, what reporting answers, which refusal comes first. Only the
 -- checker need believe this file; a reader may like to.
 use mathlib.Core.Path.{_≡_, refl}
+use mathlib.Core.Bool.{cond}
 use mathlib.Core.List.{List, [], _∷_, _++_}
 use Prim.Native.Nat.{ℕ, _-_}
 use lib.ListN.{length, replicate}
 use Rattle.network.specs.Mask.{bit, mask, count, allBelow, anyBelow, submask, rank}
 use Rattle.network.specs.Network.{holds, projected, atMost, feasible, keeps}
 use Rattle.network.specs.Game.{start, Move, after}
+use Rattle.network.specs.Tree.{Tree, done, node}
 use Rattle.network.specs.Search.{over}
 use Rattle.plan.specs.declared.Plan.{Plan}
 use Rattle.plan.specs.Answer.{unless, first, fine}
@@ -20,7 +22,7 @@ use Rattle.checker.specs.Checker.{withSubtrees, nodeAndBelow, subtreeIn, treeFa
 use Rattle.checker.proofs.Cases.{k4-tree, k11-tree, four-ways}
 use Rattle.run.specs.declared.History.{History}
 use Rattle.run.specs.History.{historyOf, historyFine}
-use Rattle.run.specs.Run.{Told, instruct, complete, refuse, nodesBefore, toldFrom, unlessFault, showAnswer, reportAnswer}
+use Rattle.run.specs.Run.{Told, instruct, complete, refuse, instructionAt, nodesBefore, toldFrom, unlessFault, showAnswer, reportAnswer}
 
 -- ---- What is computed here. To unfold a name of this section is to unfold all that its line names.
 
@@ -100,6 +102,18 @@ k14-refuses = (refl, refl, refl)
 pub k14-after-done : (o : ℕ) → Refuses k4 k4-tree (1 ∷ 0 ∷ []) o 9 × Refuses k4 k4-tree (0 ∷ 0 ∷ []) o 9
 unfolding running
 k14-after-done o = (refl, refl)
+
+-- the same by the tree itself
+abbrev k4-as-tree : Tree
+k4-as-tree = node (move 0 1 0) (λ o. cond (bit o 0) (node (move 1 2 0) (λ x. done)) (node (move 2 2 0) (λ x. done)))
+
+pub k14-by-tree :
+    (instructionAt k4 k4-as-tree [] ≡ instruct (move 0 1 0)) × (instructionAt k4 k4-as-tree (1 ∷ []) ≡ instruct (move 1 2 0))
+    × (instructionAt k4 k4-as-tree (0 ∷ []) ≡ instruct (move 2 2 0)) × (instructionAt k4 k4-as-tree (1 ∷ 0 ∷ []) ≡ complete)
+    × (instructionAt k4 k4-as-tree (2 ∷ []) ≡ refuse 8) × (instructionAt k4 k4-as-tree (1 ∷ 1 ∷ 0 ∷ []) ≡ refuse 8)
+    × (instructionAt k4 k4-as-tree (1 ∷ 0 ∷ 255 ∷ []) ≡ refuse 9)
+unfolding running instructionAt
+k14-by-tree = (refl, refl, refl, refl, refl, refl, refl)
 
 -- ---- two conditions heard in one move: each of the four outcomes leads to its own node
 
