@@ -4,15 +4,13 @@ use mathlib.Core.Path.{_≡_, refl, sym, ap, _∙_, subst}
 use mathlib.Core.Logic.{⊎-elim}
 use mathlib.Core.List.{List}
 use mathlib.Core.Bool.{true}
-use Prim.Native.Nat.{ℕ, _≤_}
+use Prim.Native.Nat.{ℕ, _≤_, _<_}
 use Rattle.network.specs.Network.{Network, IsNetwork, keeps}
-use Rattle.network.specs.Game.{start, Kept}
+use Rattle.network.specs.Game.{start}
 use Rattle.network.specs.Tree.{Tree, Wins}
 use Rattle.network.specs.FirstMoves.{FirstMoves}
 use Rattle.network.specs.Crew.{Step, Follows, AtEnd, timesPerformed, slotBySteps, valueBySteps, HeardAlike, ToldAlike}
-use Rattle.network.proofs.GameLaws.{all-left}
-use Rattle.network.proofs.StepsLaws.{once, slot-is, steps-kept}
-use Rattle.network.proofs.Theorems.{heard-alike-told-alike}
+use Rattle.network.proofs.Theorems.{crew-kept, heard-alike-told-alike}
 use Rattle.plan.specs.declared.Plan.{Plan}
 use Rattle.plan.specs.declared.Refusal.the-variants as refusal
 use Rattle.plan.specs.Answer.{unless}
@@ -87,6 +85,13 @@ module _ (p : Plan) (wf : WellFormed p) (bs : List ℕ) (fine : checkFault p bs 
     goes-on-so n =
         ⊎-elim (λ (a : PastLast p wf t log). absurd (n (told-so t d ∙ a .is-told))) lengthened (stands p wf t log follows)
 
+    -- told done, they performed each point once, in time, and kept every relevant constraint
+    kept-so :
+        Done planner p bs calls →
+        ((x : ℕ) → x < p .points → (timesPerformed log x ≡ 1) × (slotBySteps log x ≤ p .horizon))
+        × (keeps net (slotBySteps log) (valueBySteps net log) ≡ true)
+    kept-so e = crew-kept net is-net t wins log follows (done-so e)
+
     -- parts 4 and 5 of demand 3, where the bytes describe each tree of first moves
     pub every-list-so : ((t′ : Tree) → FirstMoves net t′ (start net) → Describes net bs t′) → EveryList planner p bs calls
     every-list-so first =
@@ -96,12 +101,9 @@ module _ (p : Plan) (wf : WellFormed p) (bs : List ℕ) (fine : checkFault p bs 
           told-by-rule = λ t′ f. so (λ r. showAnswer p bs (r .history) ≡ instructionAt p t′ (reportsOf (r .steps)))
               (told-so t′ (first t′ f));
           goes-on = so (λ r. ¬ (showAnswer p bs (r .history) ≡ complete) → CanBeLengthened planner p bs (r .history)) goes-on-so;
-          performed-once = λ e x lt. so (λ r. timesPerformed (r .steps) x ≡ 1)
-              (once net is-net (Kept net) t (start net) log x wins follows (done-so e) lt (all-left net x lt));
-          within-horizon = λ e x lt. so (λ r. slotBySteps (r .steps) x ≤ p .horizon)
-              (slot-is net is-net (Kept net) t (start net) log x wins follows (done-so e) lt (all-left net x lt) .1);
-          constraints-held = λ e. so (λ r. keeps net (slotBySteps (r .steps)) (valueBySteps net (r .steps)) ≡ true)
-              (steps-kept net is-net t wins log follows (done-so e));
+          performed-once = λ e x lt. so (λ r. timesPerformed (r .steps) x ≡ 1) (kept-so e .0 x lt .0);
+          within-horizon = λ e x lt. so (λ r. slotBySteps (r .steps) x ≤ p .horizon) (kept-so e .0 x lt .1);
+          constraints-held = λ e. so (λ r. keeps net (slotBySteps (r .steps)) (valueBySteps net (r .steps)) ≡ true) (kept-so e .1);
         }
 
   -- part 6
