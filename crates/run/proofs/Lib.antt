@@ -5,6 +5,6 @@ pub mod WalkLaws
 pub mod ToldFromLaws
 pub mod ToldLaws
 pub mod ReportsLaws
-pub mod AnswerLaws
+pub mod ShownLaws
 pub mod RunTheorems
 pub mod Cases

@@ -5,7 +5,7 @@ use Rattle.network.proofs.Booleans.{denied, granted}
 use Rattle.plan.specs.Refusal.{judgedNumber}
 use Rattle.checker.specs.Checker.{checkFault}
 use Rattle.run.proofs.HistoryLaws.{count-fine}
-use Rattle.run.proofs.AnswerLaws.{tree-refused, history-refused, masks-followed}
+use Rattle.run.proofs.ShownLaws.{tree-refused, history-refused, masks-followed}
 use Rattle.run.proofs.show.Statement.{statement}
 use Rattle.run.proofs.show.Tie as tie
 

@@ -5,7 +5,7 @@ use lib.ListN.{length}
 use Rattle.network.proofs.Booleans.{denied, granted}
 use Rattle.run.specs.Run.{instruct, mayReport, instructed, shownTold, showAnswer}
 use Rattle.run.proofs.ToldLaws.{room-for-one}
-use Rattle.run.proofs.AnswerLaws.{report-refused, report-after-done, report-outside, report-inside}
+use Rattle.run.proofs.ShownLaws.{report-refused, report-after-done, report-outside, report-inside}
 use Rattle.run.proofs.History.report.Statement.{statement}
 use Rattle.run.proofs.History.report.Tie as tie
 
