@@ -99,16 +99,21 @@ pub shown-leaves : (p : Plan) (tree : List ℕ) (f : Followed) (kind o : ℕ) �
 unfolding afterCall
 shown-leaves p tree f kind o e s is = is ∙ ap followedRecord (sym (ap (afterCall planner p tree s) (call-shows kind o e)))
 
--- what a report answered, and what was told before it, by the definitions
+-- A report: what was told before it and what it answered, by the definitions.
+pub record AtReport (p : Plan) (tree : List ℕ) (f : Followed) (kind o : ℕ) (told : Told) (answer : Answer History) : Type 0 where
+  pub reports : ¬ (kind ≡ 0)
+  pub told-is : told ≡ showAnswer p tree (f .history)
+  pub answer-is : answer ≡ reportAnswer p tree (f .history) o
+
 module _
-    (p : Plan) (tree : List ℕ) (f : Followed) (o : ℕ) (told : Told) (answer : Answer History)
-    (told-is : told ≡ showAnswer p tree (f .history)) (answer-is : answer ≡ reportAnswer p tree (f .history) o) where
+    (p : Plan) (tree : List ℕ) (f : Followed) (kind o : ℕ) (told : Told) (answer : Answer History)
+    (r : AtReport p tree f kind o told answer) where
+  -- what the call leaves
   module _ (s : Progress) (is : f ≡ followedRecord s) where
     history-is : f .history ≡ s .history
     unfolding followedRecord
     history-is = ap (λ (x : Followed). x .history) is
 
-    -- what the call leaves
     left-is :
         afterCall planner p tree s (reporting o)
         ≡ record { history = answer .value; steps = s .steps ++ stepsOf told o (answer .fault) }
@@ -121,38 +126,38 @@ module _
         ∙ ap (λ (a : Answer History). record {
           history = a .value;
           steps = s .steps ++ stepsOf (showAnswer p tree (f .history)) o (a .fault);
-        }) (sym answer-is)
-        ∙ ap (λ (t : Told). record { history = answer .value; steps = s .steps ++ stepsOf t o (answer .fault) }) (sym told-is)
+        }) (sym (r .answer-is))
+        ∙ ap (λ (t : Told). record { history = answer .value; steps = s .steps ++ stepsOf t o (answer .fault) }) (sym (r .told-is))
 
-    -- .. where the call is a report that follows these steps
+    -- .. where it follows these steps
     left-with :
-        (kind : ℕ) → ¬ (kind ≡ 0) → (more : List crew.Step) → stepsOf told o (answer .fault) ≡ more →
+        (more : List crew.Step) → stepsOf told o (answer .fault) ≡ more →
         afterCall planner p tree s (callOf kind o) ≡ record { history = answer .value; steps = s .steps ++ more }
-    left-with kind ne more e =
-        ap (afterCall planner p tree s) (call-reports kind o ne)
+    left-with more e =
+        ap (afterCall planner p tree s) (call-reports kind o (r .reports))
         ∙ left-is
         ∙ ap (λ (l : List crew.Step). record { history = answer .value; steps = s .steps ++ l }) e
 
   -- no step more
-  pub as-before : stepsOf told o (answer .fault) ≡ [] → (kind : ℕ) → ¬ (kind ≡ 0) →
+  pub as-before :
+      stepsOf told o (answer .fault) ≡ [] →
       AfterCall p tree f kind o (record { history = answer .value; count = f .count; steps = f .steps })
   unfolding followedRecord
-  as-before none kind ne s is =
+  as-before none s is =
       ap (λ (x : Followed). record { history = answer .value; count = x .count; steps = x .steps }) is
       ∙ ap followedRecord
-      (sym (left-with s is kind ne [] none
-      ∙ ap (λ (l : List crew.Step). record { history = answer .value; steps = l }) (append-nil (s .steps))))
+      (sym (left-with s is [] none ∙ ap (λ (l : List crew.Step). record { history = answer .value; steps = l }) (append-nil (s .steps))))
 
   -- one step more
   pub step-more :
       (v : Instruction) → stepsOf told o (answer .fault) ≡ record { instruction = instructed v; report = o } ∷ [] → f .count < 8 →
-      (kind : ℕ) → ¬ (kind ≡ 0) → AfterCall p tree f kind o (oneStepMore f (answer .value) v o)
+      AfterCall p tree f kind o (oneStepMore f (answer .value) v o)
   unfolding followedRecord
-  step-more v one lt kind ne s is =
+  step-more v one lt s is =
       let count-is = ap (λ (x : Followed). x .count) is in
       ap (λ (x : Followed). oneStepMore x (answer .value) v o) is
       ∙ sym (record-more (answer .value) (s .steps) (record { instruction = instructed v; report = o }) (omega arith))
-      ∙ ap followedRecord (sym (left-with s is kind ne _ one))
+      ∙ ap followedRecord (sym (left-with s is _ one))
 
 -- ---- a list of calls
 

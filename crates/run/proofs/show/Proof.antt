@@ -10,7 +10,7 @@ use Rattle.run.proofs.show.Statement.{statement}
 use Rattle.run.proofs.show.Tie as tie
 
 -- the checker found no fault
-fine : (c : tie.After-enum-told) → 0 ≡ checkFault (c .before .before .before .before .args .plan) (c .before .before .before .before .args .nodes .now)
+fine : (c : tie.After-enum-told) → let a = c .before .before .before .before .args in 0 ≡ checkFault (a .plan) (a .nodes .now)
 fine c = sym (ap judgedNumber (c .enum-told .given .1)) ∙ c .before .before .check-tree .ensures
 
 check-tree-requires : tie.Need-check-tree-requires
@@ -21,7 +21,8 @@ enum-known-checked c = search needs
 
 returns : tie.Need-returns
 returns c =
-    tree-refused _ _ _ (c .before .checked .given .0 .0) (sym (ap judgedNumber (c .before .checked .given .1)) ∙ c .before .before .before .check-tree .ensures)
+    let g = c .before .checked .given in
+    tree-refused _ _ _ (g .0 .0) (sym (ap judgedNumber (g .1)) ∙ c .before .before .before .check-tree .ensures)
 
 enum-told : tie.Need-enum-told
 enum-told c = search needs
@@ -30,16 +31,15 @@ is-fine-requires : tie.Need-is-fine-requires
 is-fine-requires c κs = search needs
 
 returns-2 : tie.Need-returns-2
-returns-2 c =
-    history-refused _ _ _ (fine (c .before .before)) (denied (c .before .is-fine .ensures) (c .if1 .taken))
+returns-2 c = history-refused _ _ _ (fine (c .before .before)) (denied (c .before .is-fine .ensures) (c .if1 .taken))
 
 told-requires : tie.Need-told-requires
-told-requires c κs =
-    (sym (fine (c .before .before)), count-fine _ (granted (c .before .is-fine .ensures) (c .if1 .left)))
+told-requires c κs = (sym (fine (c .before .before)), count-fine _ (granted (c .before .is-fine .ensures) (c .if1 .left)))
 
 returns-3 : tie.Need-returns-3
 returns-3 c =
-    c .told .ensures ∙ masks-followed _ _ _ (fine (c .before .before .before)) (granted (c .before .before .is-fine .ensures) (c .before .if1 .left))
+    let history-fine = granted (c .before .before .is-fine .ensures) (c .before .if1 .left) in
+    c .told .ensures ∙ masks-followed _ _ _ (fine (c .before .before .before)) history-fine
 
 pub show-spec : {M : Type 1} → statement M
 show-spec =

@@ -13,10 +13,14 @@ long : (c : tie.Start) → length (c .args .self .masks) ≡ 8
 long c = search needs
 
 -- an instruction is told
-told : (c : tie.After-shown2) → let a = c .before .before .before .before .args in instruct (instructed (c .shown2 .given .0 .0)) ≡ showAnswer (a .plan) (a .nodes .now) (a .self)
+told : (c : tie.After-shown2) →
+    let a = c .before .before .before .before .args in
+    instruct (instructed (c .shown2 .given .0 .0)) ≡ showAnswer (a .plan) (a .nodes .now) (a .self)
 told c = sym (ap shownTold (c .shown2 .given .1)) ∙ c .before .before .show .ensures
 
-may-be : (c : tie.After-subset) → c .subset .result ≡ mayReport (c .before .before .before .before .before .before .before .args .plan) (instructed (c .before .before .before .shown2 .given .0 .0)) (c .before .before .before .before .before .before .before .args .mask)
+may-be : (c : tie.After-subset) →
+    let a = c .before .before .before .before .before .before .before .args in
+    c .subset .result ≡ mayReport (a .plan) (instructed (c .before .before .before .shown2 .given .0 .0)) (a .mask)
 may-be c = c .subset .ensures ∙ rw (c .before .heard .ensures) refl
 
 show-requires : tie.Need-show-requires
@@ -47,21 +51,27 @@ refused-requires-3 : tie.Need-refused-requires-3
 refused-requires-3 c κs = search needs
 
 returns : tie.Need-returns
-returns c = c .refused3 .ensures ∙ report-outside _ _ _ _ _ (told (c .before .before .before .before .before)) (denied (may-be (c .before .before)) (c .before .if1 .taken))
+returns c =
+    let outside = denied (may-be (c .before .before)) (c .before .if1 .taken) in
+    c .refused3 .ensures ∙ report-outside _ _ _ _ _ (told (c .before .before .before .before .before)) outside
 
 with-mask-requires : tie.Need-with-mask-requires
-with-mask-requires c κs = room-for-one _ _ _ _ (long (c .before .before .before .before .before .before .before .before)) (sym (told (c .before .before .before .before)))
+with-mask-requires c κs = let s = c .before .before .before .before .before .before .before .before in room-for-one _ _ _ _ (long s) (sym (told (c .before .before .before .before)))
 
 returns-2 : tie.Need-returns-2
 returns-2 c =
-    let r = c .before .before .shown .given in
-    c .refused .ensures ∙ report-refused _ _ _ _ (r .0 .0) (sym (ap shownTold (r .1)) ∙ c .before .before .before .before .show .ensures)
+    let g = c .before .before .shown .given in
+    c .refused .ensures ∙ report-refused _ _ _ _ (g .0 .0) (sym (ap shownTold (g .1)) ∙ c .before .before .before .before .show .ensures)
 
 returns-3 : tie.Need-returns-3
-returns-3 c = c .refused2 .ensures ∙ report-after-done _ _ _ _ (sym (ap shownTold (c .before .enum-told .given .1)) ∙ c .before .before .before .show .ensures)
+returns-3 c =
+    let g = c .before .enum-told .given in
+    c .refused2 .ensures ∙ report-after-done _ _ _ _ (sym (ap shownTold (g .1)) ∙ c .before .before .before .show .ensures)
 
 returns-4 : tie.Need-returns-4
-returns-4 c = rw (c .with-mask .ensures) (report-inside _ _ _ _ _ (told (c .before .before .before .before .before)) (granted (may-be (c .before .before)) (c .before .if1 .left)))
+returns-4 c =
+    let inside = granted (may-be (c .before .before)) (c .before .if1 .left) in
+    rw (c .with-mask .ensures) (report-inside _ _ _ _ _ (told (c .before .before .before .before .before)) inside)
 
 pub report-spec : {M : Type 1} → statement M
 report-spec =
