@@ -1,6 +1,6 @@
 -- Impostors: planners that document 01 won't take, and more. None meets demand 3; a comment says which part of it each one breaks. Read
 -- the planners and the statements; only the checker need believe the proofs.
-use mathlib.Core.Path.{_≡_, refl, sym, ap, _∙_, subst}
+use mathlib.Core.Path.{_≡_, refl, sym, ap, _∙_}
 use mathlib.Core.Logic.{inl, inr}
 use mathlib.Core.List.{List, [], _∷_}
 use mathlib.Core.Bool.{true, false, cond}

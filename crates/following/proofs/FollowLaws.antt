@@ -1,7 +1,5 @@
 -- Laws of a list of calls as bytes, and of the record of a crew's progress. Only the checker need believe this file.
 use mathlib.Core.Path.{_≡_, refl, sym, ap, _∙_, subst}
-use mathlib.Core.Logic.{by-cases}
-use mathlib.Core.Bool.{Bool, true, false}
 use mathlib.Core.List.{List, [], _∷_, _++_, map, append-nil}
 use Prim.Native.Nat.{ℕ, zero, suc, _+_, _-_, _≤_, _<_}
 use native.Mathlib.Omega.{arith}
@@ -14,8 +12,7 @@ use Rattle.plan.specs.Answer.{Answer}
 use Rattle.plan.proofs.SliceLaws.{rest as part, rest-is, padded, put-next}
 use Rattle.run.specs.declared.Instruction.{Instruction}
 use Rattle.run.specs.declared.History.{History}
-use Rattle.run.specs.History.{longer}
-use Rattle.run.specs.Run.{Told, instruct, complete, refuse, instructed, showAnswer, reportFault, reportAnswer}
+use Rattle.run.specs.Run.{Told, instruct, complete, refuse, instructed, showAnswer, reportAnswer}
 use Rattle.run.proofs.RunTheorems.{accepted-longer, refused-same}
 use Rattle.following.specs.declared.Followed.{Followed}
 use Rattle.following.specs.Calls.{planner, Call, showing, reporting, Progress, begun, stepsOf, afterCall, afterCalls}

@@ -1,5 +1,5 @@
 -- Laws of what showing and reporting answer, fault by fault. Only the checker need believe this file.
-use mathlib.Core.Path.{_≡_, ap, _∙_}
+use mathlib.Core.Path.{_≡_}
 use mathlib.Core.Bool.{true, false}
 use mathlib.Core.List.{List}
 use Prim.Native.Nat.{ℕ}
@@ -15,7 +15,7 @@ use Rattle.plan.proofs.AnswerLaws.{first-refused}
 use Rattle.checker.specs.Checker.{checkFault}
 use Rattle.run.specs.declared.History.{History}
 use Rattle.run.specs.History.{historyFine, reportsIn, longer}
-use Rattle.run.specs.Run.{Told, instruct, complete, refuse, mayReport, toldFrom, unlessFault, showAnswer, reportFault, reportAnswer}
+use Rattle.run.specs.Run.{instruct, complete, refuse, mayReport, toldFrom, unlessFault, showAnswer, reportAnswer}
 
 module _ (p : Plan) (bs : List ℕ) (h : History) where
   -- ---- showing

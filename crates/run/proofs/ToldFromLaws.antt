@@ -2,13 +2,13 @@
 use mathlib.Core.Path.{_≡_, refl, sym, ap, _∙_, subst}
 use mathlib.Core.Bool.{Bool, true, false}
 use mathlib.Core.List.{List, [], _∷_}
-use Prim.Native.Nat.{ℕ, suc, _+_, _*_, _^_, _≤_, _<_}
+use Prim.Native.Nat.{ℕ, _+_, _*_, _^_, _≤_, _<_}
 use native.Mathlib.Numerals.{add-one}
 use native.Mathlib.Omega.{arith}
 use lib.ListN.{length, getD, take, drop, length-drop, drop-of-length-le, length-replicate}
 use lib.Seq.{length-take-le, drop-cons, getD-take}
 use Rattle.network.specs.Mask.{bit, count}
-use Rattle.network.specs.Game.{State, start, Outcome, outcomes, after}
+use Rattle.network.specs.Game.{State, start, after}
 use Rattle.network.proofs.Booleans.{eqb-no}
 use Rattle.plan.specs.declared.Plan.{Plan}
 use Rattle.plan.specs.declared.Refusal.the-variants as refusal

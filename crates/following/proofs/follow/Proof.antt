@@ -1,10 +1,9 @@
 -- The invariant: where the crew stands leads to how far it comes in all. Only the checker need believe this file.
-use mathlib.Core.Path.{_≡_, refl, sym, ap, _∙_}
+use mathlib.Core.Path.{refl, ap, _∙_}
 use native.Mathlib.Omega.{arith}
 use borrow.Author.Needs.{needs}
 use lib.ListN.{length}
 use Rattle.run.specs.declared.History.{History}
-use Rattle.following.specs.declared.Followed.{Followed}
 use Rattle.following.specs.Calls.{planner, begun, afterCalls}
 use Rattle.following.specs.Following.{callsIn, followedRecord}
 use Rattle.following.proofs.FollowLaws.{Stands, history-begun, stand-begins, fewer-bytes, steps-fit, stand-ends, stand-on}

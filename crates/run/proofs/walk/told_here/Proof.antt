@@ -1,5 +1,4 @@
 -- By computing. Only the checker need believe this file.
-use mathlib.Core.Path.{_≡_, refl}
 use borrow.Author.Needs.{needs}
 use Rattle.network.proofs.Booleans.{eqb-no}
 use Rattle.run.proofs.walk.told_here.Statement.{statement}
