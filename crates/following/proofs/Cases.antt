@@ -1,5 +1,5 @@
--- Cases: a crew's list of calls over K4's tree (document 01's K14), by computing: how far it comes, and its calls as bytes. Only the checker
--- need believe this file; a reader may like to.
+-- Cases: a crew's list of calls over the tree of K4 (document 01, K14), by computing: how far it comes, and its calls as bytes. Only the
+-- checker need believe this file; a reader may like to.
 use mathlib.Core.Path.{_≡_, refl}
 use mathlib.Core.List.{List, [], _∷_}
 use Prim.Native.Nat.{ℕ}
@@ -89,3 +89,23 @@ pub k14-recorded :
     }
 unfolding calling followedRecord
 k14-recorded = refl
+
+-- begun at a history of one report: two reports in the end, and one step followed
+pub begun-later :
+    followedRecord (afterCalls planner k4 k4-tree (begun (historyOf (1 ∷ []))) (callsIn (1 ∷ 1 ∷ 1 ∷ 0 ∷ [])))
+    ≡ record {
+      history = historyOf (1 ∷ 0 ∷ []);
+      count = 1;
+      steps =
+          record { instruction = record { slot = 1; points = 2; choices = 0 }; report = 0 }
+          ∷ replicate 7 (record { instruction = record { slot = 0; points = 0; choices = 0 }; report = 0 });
+    }
+unfolding calling followedRecord callsIn
+begun-later = refl
+
+-- at a malformed history every call is refused, and leaves it
+pub malformed-stays :
+    afterCalls planner k4 k4-tree (begun (record { count = 9; masks = replicate 8 0 })) (showing ∷ reporting 0 ∷ reporting 1 ∷ [])
+    ≡ begun (record { count = 9; masks = replicate 8 0 })
+unfolding calling
+malformed-stays = refl
