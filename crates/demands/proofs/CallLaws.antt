@@ -2,7 +2,7 @@
 -- and the history holds their reports. Only the checker need believe this file.
 use mathlib.Core.Path.{_≡_, refl, sym, ap, _∙_, subst}
 use mathlib.Core.Logic.{_⊎_, inl, inr, ⊎-elim}
-use mathlib.Core.List.{List, [], _∷_, _++_, map, append-nil}
+use mathlib.Core.List.{List, [], _∷_, _++_, map, append-nil, map-append}
 use mathlib.Core.Bool.{true}
 use Prim.Native.Nat.{ℕ, suc, _+_, _≤_, _<_}
 use native.Mathlib.Omega.{arith}
@@ -39,8 +39,7 @@ reportsOf log = map (λ st. st .report) log
 
 -- the reports of steps with one more behind them
 reports-more : (log : List Step) (m : Move) (o : ℕ) → reportsOf (log ++ stepOf m o ∷ []) ≡ reportsOf log ++ o ∷ []
-reports-more [] m o = refl
-reports-more (st ∷ log) m o = ap (λ (os : List ℕ). st .report ∷ os) (reports-more log m o)
+reports-more log m o = map-append (λ st. st .report) log (stepOf m o ∷ [])
 
 -- ---- where steps lead on a tree
 

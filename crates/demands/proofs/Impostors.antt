@@ -35,6 +35,7 @@ use Rattle.search.proofs.Cases.{computing}
 use Rattle.run.specs.declared.History.{History}
 use Rattle.run.specs.History.{emptyHistory, reportsIn, longer}
 use Rattle.run.specs.Run.{Told, instruct, complete, refuse, toldFrom, showAnswer, reportFault, reportAnswer}
+use Rattle.run.proofs.ToldLaws.{refused-is-not}
 use Rattle.run.proofs.Cases.{move}
 use Rattle.following.specs.Calls.{Planner, Call, reporting}
 use Rattle.following.proofs.Cases.{calling, step}
@@ -53,10 +54,7 @@ room = omega arith
 hopeful : (P : Planner) (p : Plan) → P .searches p lent .fault ≡ 0 → ¬ Hopeless P p lent
 hopeful P p e h = let z : _≡_ {A = ℕ} 0 11 = sym e ∙ h in omega arith
 
--- who is refused is neither instructed nor done
-not-instructed : {t : Told} {n : ℕ} {m : Move} → t ≡ refuse n → t ≡ instruct m → ⊥
-not-instructed r i = let z : _≡_ {A = ℕ} 0 1 = cc in omega arith
-
+-- who is refused is not done
 not-done : {t : Told} {n : ℕ} → t ≡ refuse n → t ≡ complete → ⊥
 not-done r c = let z : _≡_ {A = ℕ} 0 1 = cc in omega arith
 
@@ -64,7 +62,7 @@ not-done r c = let z : _≡_ {A = ℕ} 0 1 = cc in omega arith
 no-walk :
     (P : Planner) (p : Plan) → P .searches p lent .fault ≡ 0 → (n : ℕ) → toldAfter P p (madeTree P p lent) [] ≡ refuse n →
     Demand3For P p lent → ⊥
-no-walk P p e n r d = not-instructed r (d .every-list (hopeful P p e) [] .goes-on (not-done r) .is-told)
+no-walk P p e n r d = refused-is-not (sym r ∙ d .every-list (hopeful P p e) [] .goes-on (not-done r) .is-told)
 
 -- a report that gets this fault: without one the longer history is handed back, else the one that was given
 abbrev reportedBy : ℕ → History → ℕ → Answer History

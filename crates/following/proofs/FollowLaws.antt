@@ -1,6 +1,6 @@
 -- Laws of a list of calls as bytes, and of the record of a crew's progress. Only the checker need believe this file.
 use mathlib.Core.Path.{_≡_, refl, sym, ap, _∙_, subst}
-use mathlib.Core.List.{List, [], _∷_, _++_, map, append-nil}
+use mathlib.Core.List.{List, [], _∷_, _++_, map, append-nil, map-append}
 use Prim.Native.Nat.{ℕ, zero, suc, _+_, _-_, _≤_, _<_}
 use native.Mathlib.Omega.{arith}
 use lib.Dec.{eqb}
@@ -65,10 +65,6 @@ one-step t v o fault e f = rw (e, f)
 
 -- ---- the record after a report
 
-map-more : {A B : Type 0} (f : A → B) (xs : List A) (x : A) → map f (xs ++ x ∷ []) ≡ map f xs ++ f x ∷ []
-map-more f [] x = refl
-map-more f (y ∷ xs) x = ap (λ (l : List _). f y ∷ l) (map-more f xs x)
-
 -- the record of one step more
 record-more :
     (h : History) (log : List crew.Step) (st : crew.Step) → length log < 8 →
@@ -87,7 +83,7 @@ record-more h log st lt =
     ≡ map stepRecord more ++ replicate (8 - length more) zeroStep
     = ap (λ (k : ℕ). set (done ++ replicate (8 - k) zeroStep) k (stepRecord st)) (sym long)
     ∙ put-next 8 zeroStep done (stepRecord st) (omega arith)
-    ∙ ap (padded 8 zeroStep) (sym (map-more stepRecord log st))
+    ∙ ap (padded 8 zeroStep) (sym (map-append stepRecord log (st ∷ [])))
     ∙ ap (λ (k : ℕ). map stepRecord more ++ replicate (8 - k) zeroStep) (length-map more stepRecord) in
     λ i. record { history = h; count = length-append log (st ∷ []) i; steps = sym steps i }
 
