@@ -1,1 +1,1 @@
-// The crate `network` has no code: its specs/ hold the definitions of the paper and of the game, its proofs/ the theorems.
+// The crate `demands` has no code: its specs/ hold demand 3, its proofs/ the theorem, what follows from it, and the impostors that fail it.

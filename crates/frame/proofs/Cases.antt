@@ -6,7 +6,7 @@ use Rattle.network.specs.Mask.{allBelow}
 use Rattle.plan.specs.declared.Refusal.the-variants as refusal
 use Rattle.frame.specs.Hex.{digitOf, pairOf, hexDigit}
 use Rattle.frame.specs.Frame.{frameText, refusalText, byteAt, valueAt, whole}
-use Rattle.frame.proofs.Characters.{characters}
+use Rattle.frame.specs.Characters.{characters}
 
 pub written : (frameText (1 ∷ 35 ∷ 175 ∷ []) ≡ characters "0123AF\n") × (frameText (254 ∷ []) ≡ characters "FE\n")
 unfolding hexDigit

@@ -5,5 +5,4 @@ pub mod RunLaws
 pub mod CodeLaws
 pub mod ReadingLaws
 pub mod WritingLaws
-pub mod Characters
 pub mod Cases

@@ -21,8 +21,11 @@ frameText [] = 10 ∷ []
 frameText (b ∷ bs) = hexDigit (b / 16) ∷ hexDigit (b % 16) ∷ frameText bs
 
 -- 7F refusal: its number
+abbrev pub faultText : ℕ → List ℕ
+faultText n = frameText (127 ∷ n ∷ [])
+
 abbrev pub refusalText : Refusal → List ℕ
-refusalText r = frameText (127 ∷ refusalNumber r ∷ [])
+refusalText r = faultText (refusalNumber r)
 
 -- ---- the frame at the front of a text. (Past the end of a text `getD` gives 0, which is no digit and no line feed.)
 

@@ -1,4 +1,5 @@
 -- Definitions: the modules of this folder, in the order in which they are read. A reader must believe them.
+pub mod Characters
 pub mod Hex
 pub mod Frame
 pub mod Texts

@@ -13,7 +13,7 @@ use Rattle.judge.specs.Judge.{headFine, takenBefore, letterFine, letterUnused, 
 use Rattle.frame.specs.Hex.{digitOf, pairOf, hexDigit}
 use Rattle.frame.specs.Frame.{byteAt, whole}
 use Rattle.frame.specs.Texts.{frameFault, framesFrom, atEnd}
-use Rattle.frame.proofs.Characters.{characters}
+use Rattle.frame.specs.Characters.{characters}
 use Rattle.plan_text.specs.PlanText.{planText, writePlan}
 use Rattle.plan_text.specs.ReadPlan.{readHead, readLetter, readConstraint, readPlan}
 

@@ -10,7 +10,7 @@ use Rattle.plan.specs.Answer.{unless, first, fine, answered, andThen, filled}
 use Rattle.frame.specs.Hex.{digitOf, pairOf, hexDigit}
 use Rattle.frame.specs.Frame.{byteAt, whole}
 use Rattle.frame.specs.Texts.{frameFault, framesFrom, atEnd}
-use Rattle.frame.proofs.Characters.{characters}
+use Rattle.frame.specs.Characters.{characters}
 use Rattle.tree.specs.Nodes.{legalLength}
 use Rattle.tree_text.specs.TreeText.{treeText, writeTree, readTreeHead, readNode, readNodes, bytesIn, readTree}
 

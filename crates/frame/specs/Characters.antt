@@ -1,4 +1,4 @@
--- Texts written out, for cases. Only the checker need believe this file.
+-- Definitions: a text that is written out between quotes, as the numbers of its characters. A reader must believe this file.
 use mathlib.Core.List.{List, [], _∷_}
 use Prim.Native.Nat.{ℕ}
 use Prim.Native.Char.{code}
