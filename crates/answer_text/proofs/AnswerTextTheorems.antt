@@ -80,8 +80,8 @@ module _ (input : List ℕ) where
         ∙ ap (λ (n : ℕ). printed n (treeText (treeOf p))) (fault-is p lent ∙ none)
         ∙ ap treeText (front-is-tree p lent none)
 
-    legal : DynamicallyConsistent (networkOf p) → legalLength (length (treeBytes (networkOf p) (firstTree (networkOf p)))) ≡ true
-    legal consistent =
+    pub tree-legal : DynamicallyConsistent (networkOf p) → legalLength (length (treeBytes (networkOf p) (firstTree (networkOf p)))) ≡ true
+    tree-legal consistent =
         let l = answered-so p lent (fine-exactly p lent (says .1) room .1 consistent) .legal in
         rw (l .threes) (legal-make (nodeCount (treeBytes (networkOf p) (firstTree (networkOf p)))) (l .some) (l .most))
 
@@ -164,7 +164,7 @@ module _ (input : List ℕ) where
   pub answer-fits : length (answerText input) ≤ 1724
   answer-fits =
       by-input
-      (λ p says c t. rw t (at-most-1724 (treeBytes (networkOf p) (firstTree (networkOf p))) (legal p says c)))
+      (λ p says c t. rw t (at-most-1724 (treeBytes (networkOf p) (firstTree (networkOf p))) (tree-legal p says c)))
       (λ p says no t. let e = ap length t in omega arith)
       (λ none n low high t. let e = ap length t in omega arith)
 

@@ -1,5 +1,8 @@
--- Laws and theorems. Only the checker need believe them; Demand3Theorem.antt, Corollaries.antt, CodeTheorems.antt and Impostors.antt have
--- statements to read.
+-- Laws and theorems. Only the checker need believe them; the theorems of the three demands, Corollaries.antt, CodeTheorems.antt and
+-- Impostors.antt have statements to read.
+pub mod Demand1Laws
+pub mod Demand1Theorem
+pub mod Demand2Theorem
 pub mod CallLaws
 pub mod EveryListLaws
 pub mod Demand3Theorem

@@ -1,1 +1,2 @@
-// The crate `demands` has no code: its specs/ hold demand 3, its proofs/ the theorem, what follows from it, and the impostors that fail it.
+// The crate `demands` has no code: its specs/ hold demands 1 to 3, its proofs/ the theorems, what follows from demand 3, and the
+// impostors that fail it.

@@ -2,7 +2,8 @@
 use mathlib.Core.Path.{_≡_, refl}
 use mathlib.Core.Bool.{Bool, true, false}
 use Prim.Native.Nat.{ℕ}
-use Rattle.network.proofs.Booleans.{eqb-no}
+use lib.Dec.{eqb}
+use Rattle.network.proofs.Booleans.{by-test, clash, eqb-is, eqb-yes, eqb-no}
 use Rattle.plan.specs.declared.Refusal.{Refusal}
 use Rattle.plan.specs.Refusal.{refusalNumber}
 use Rattle.plan.specs.Answer.{unless, first, Answer, fine, refused, answered}
@@ -25,6 +26,11 @@ unless-of P false r none t = t
 pub first-refused : (r : Refusal) (n : ℕ) → first (refusalNumber r) n ≡ refusalNumber r
 unfolding first
 first-refused r n = rw (some-number r)
+
+-- no fault is first only where neither is one
+pub first-none : (a b : ℕ) → first a b ≡ 0 → (a ≡ 0) × (b ≡ 0)
+unfolding first
+first-none a b e = by-test (eqb a 0) (λ y. (eqb-is a 0 y, rw y at e)) (λ z. clash (eqb-yes a 0 (rw z at e)) z)
 
 -- ---- answers
 

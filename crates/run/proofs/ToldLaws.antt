@@ -22,7 +22,7 @@ use Rattle.plan.specs.declared.Refusal.the-variants as refusal
 use Rattle.plan.specs.Answer.{first}
 use Rattle.plan.specs.Plan.{networkOf}
 use Rattle.plan.specs.WellFormed.{WellFormed}
-use Rattle.plan.proofs.AnswerLaws.{unless-is}
+use Rattle.plan.proofs.AnswerLaws.{unless-is, first-none}
 use Rattle.judge.specs.Judge.{planFault}
 use Rattle.judge.proofs.WellFormedLaws.{fine-exactly}
 use Rattle.tree.specs.Nodes.{nodeBytes, fromNode}
@@ -53,11 +53,6 @@ unless-fault-is : (n : ℕ) (t : Told) (m : Move) → unlessFault n t ≡ instru
 unfolding unlessFault
 unless-fault-is n t m e =
     by-test (eqb n 0) (λ y. (eqb-is n 0 y, rw y at e)) (λ z. refused-is-not (rw z at e))
-
--- no fault is first only where neither is one
-first-none : (a b : ℕ) → first a b ≡ 0 → (a ≡ 0) × (b ≡ 0)
-unfolding first
-first-none a b e = by-test (eqb a 0) (λ y. (eqb-is a 0 y, rw y at e)) (λ z. clash (eqb-yes a 0 (rw z at e)) z)
 
 module _ (p : Plan) (wf : WellFormed p) where
   abbrev net : Network

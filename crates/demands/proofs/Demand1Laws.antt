@@ -1,0 +1,153 @@
+-- Laws for demand 1: numbers that are among some, faults that come first, buffers that are filled, and what a crew is told. Only the
+-- checker need believe this file.
+use mathlib.Core.Path.{_≡_, refl, _∙_}
+use mathlib.Core.Logic.{inl, inr, by-cases}
+use mathlib.Core.Bool.{Bool, true, false, _&&_, _||_}
+use mathlib.Core.List.{List, [], _∷_}
+use Prim.Native.Nat.{ℕ, zero, suc, _+_, _≤_, _<_}
+use native.Mathlib.Omega.{arith}
+use native.Mathlib.Decide.{decLt}
+use lib.Dec.{leb, eqb}
+use lib.ListN.{length}
+use Rattle.network.specs.Game.{State, after}
+use Rattle.network.proofs.Booleans.{by-test, clash, and-left, and-right, leb-is, eqb-is, eqb-no, differs}
+use Rattle.plan.specs.declared.Plan.{Plan}
+use Rattle.plan.specs.declared.Refusal.{Refusal}
+use Rattle.plan.specs.declared.Refusal.the-variants as refusal
+use Rattle.plan.specs.Refusal.{refusalNumber}
+use Rattle.plan.specs.Answer.{unless, first, answered, filled}
+use Rattle.plan.specs.Plan.{networkOf}
+use Rattle.plan.specs.WellFormed.{WellFormed}
+use Rattle.plan.proofs.AnswerLaws.{unless-is, unless-of, first-none}
+use Rattle.judge.specs.Judge.{planFault}
+use Rattle.judge.proofs.WellFormedLaws.{fine-exactly, two-to-four}
+use Rattle.frame.specs.Texts.{roomFault}
+use Rattle.frame.proofs.WritingLaws.{writes}
+use Rattle.tree.specs.Nodes.{nodeAt, fromNode}
+use Rattle.tree.specs.Trees.{moveOf}
+use Rattle.run.specs.Run.{Told, instruct, complete, refuse, mayReport, nodesBefore, toldHere, toldFrom, unlessFault, reportFault}
+use Rattle.demands.specs.Demand1.{OneOf, Fills}
+
+-- ---- one of some numbers
+
+-- the tests: whether a number is among some, and whether all of ms are
+abbrev among : List ℕ → ℕ → Bool
+among [] n = false
+among (m ∷ ms) n = eqb n m || among ms n
+
+abbrev allAmong : List ℕ → List ℕ → Bool
+allAmong ks [] = true
+allAmong ks (m ∷ ms) = among ks m && allAmong ks ms
+
+pub one-of : (ms : List ℕ) (k : ℕ) → among ms k ≡ true → {n : ℕ} → n ≡ k → OneOf ms n
+unfolding OneOf
+one-of [] k t e = clash t refl
+one-of (m ∷ ms) k t e = by-test (eqb k m) (λ y. inl (e ∙ eqb-is k m y)) (λ z. inr (one-of ms k (rw z at t) e))
+
+-- one of ms is one of ks, where all of ms are among ks; of written-out numbers `refl` says that
+pub one-of-more : (ks ms : List ℕ) (n : ℕ) → allAmong ks ms ≡ true → OneOf ms n → OneOf ks n
+unfolding OneOf
+one-of-more ks (m ∷ ms) n t (inl e) = one-of ks m (and-left (among ks m) (allAmong ks ms) t) e
+one-of-more ks (m ∷ ms) n t (inr h) = one-of-more ks ms n (and-right (among ks m) (allAmong ks ms) t) h
+
+-- k numbers from m on
+abbrev pub from : ℕ → ℕ → List ℕ
+from m zero = []
+from m (suc k) = m ∷ from (suc m) k
+
+pub one-between : (m k n : ℕ) → m ≤ n → n < m + k → OneOf (from m k) n
+unfolding OneOf
+one-between m zero n low high = absurd (omega arith)
+one-between m (suc k) n low high =
+    by-cases (decLt m n) (λ lt. inr (one-between (suc m) k n (omega arith) (omega arith))) (λ ge. inl (omega arith))
+
+-- ---- faults
+
+-- the first of two faults is one of them: the second only where the first is none
+first-of : (P : ℕ → Type 0) (a b : ℕ) → (¬ (a ≡ 0) → P a) → (a ≡ 0 → P b) → P (first a b)
+unfolding first
+first-of P a b one two = by-test (eqb a 0) (λ y. rw y (two (eqb-is a 0 y))) (λ z. rw z (one (differs a 0 z)))
+
+pub first-one : (ms : List ℕ) (a b : ℕ) → OneOf ms a → OneOf ms b → OneOf ms (first a b)
+first-one ms a b one two = first-of (OneOf ms) a b (λ ne. one) (λ e. two)
+
+pub unless-one : (ms : List ℕ) (b : Bool) (r : Refusal) → allAmong ms (0 ∷ refusalNumber r ∷ []) ≡ true → OneOf ms (unless b r)
+unfolding OneOf
+unless-one ms b r t =
+    let both : List ℕ = 0 ∷ refusalNumber r ∷ [] in one-of-more ms both (unless b r) t (unless-of (OneOf both) b r (inl refl) (inr (inl refl)))
+
+-- a plan record is well formed, or its fault is 2, 3 or 4
+pub by-plan : {C : Type 0} (p : Plan) → (WellFormed p → C) → (¬ WellFormed p → OneOf (2 ∷ 3 ∷ 4 ∷ []) (planFault p) → C) → C
+by-plan p fine faulty =
+    by-test (eqb (planFault p) 0)
+    (λ y. fine (fine-exactly p .0 (eqb-is (planFault p) 0 y)))
+    (λ z. let n : ¬ WellFormed p = λ wf. differs (planFault p) 0 z (fine-exactly p .1 wf) in
+    let (low, high) = two-to-four p n in
+    faulty n (one-between 2 3 (planFault p) low (omega arith)))
+
+pub plan-one : (ms : List ℕ) → allAmong ms (0 ∷ 2 ∷ 3 ∷ 4 ∷ []) ≡ true → (p : Plan) → OneOf ms (planFault p)
+unfolding OneOf
+plan-one ms t p =
+    one-of-more ms (0 ∷ 2 ∷ 3 ∷ 4 ∷ []) (planFault p) t (by-plan p (λ wf. inl (fine-exactly p .1 wf)) (λ n h. inr h))
+
+-- ---- buffers
+
+pub fills : (n : ℕ) (bytes xs : List ℕ) → (n ≡ 0 → length bytes ≤ length xs) → Fills n bytes xs (filled n bytes xs)
+unfolding filled
+fills n bytes xs room =
+    record { has-room = room; front = λ e. rw e; refused = λ ne. rw (eqb-no n 0 ne) }
+
+-- a text that is written, where `fault` is judged before the room
+module _ (fault : ℕ) (text xs : List ℕ) where
+  abbrev room : Bool
+  room = leb (length text) (length xs)
+
+  pub write-one : (ms : List ℕ) → allAmong ms (0 ∷ 10 ∷ []) ≡ true → OneOf ms fault → OneOf ms (writes fault text xs .fault)
+  unfolding answered
+  write-one ms t one = first-one ms fault (roomFault text xs) one (unless-one ms room refusal.Buffer t)
+
+  pub write-length : writes fault text xs .fault ≡ 0 → writes fault text xs .value ≡ length text
+  unfolding answered
+  write-length e = rw e
+
+  pub write-fills : Fills (writes fault text xs .fault) text xs (filled (writes fault text xs .fault) text xs)
+  unfolding answered
+  write-fills =
+      fills (writes fault text xs .fault) text xs
+      (λ e. leb-is (length text) (length xs) (unless-is room refusal.Buffer (first-none fault (roomFault text xs) e .1)))
+
+-- ---- what a crew is told: the numbers of its refusals
+
+abbrev pub crewNumbers : List ℕ
+crewNumbers = 2 ∷ 3 ∷ 4 ∷ 6 ∷ 7 ∷ 8 ∷ 9 ∷ []
+
+abbrev pub Numbered : Told → Type 0
+Numbered (instruct m) = Unit {0}
+Numbered complete = Unit {0}
+Numbered (refuse n) = OneOf crewNumbers n
+
+here-numbered : (left : ℕ) (bs : List ℕ) → Numbered (toldHere left bs)
+here-numbered left bs = by-test (eqb left 0) (λ y. rw y tt) (λ z. rw z tt)
+
+pub told-numbered : (p : Plan) (s : State) (bs os : List ℕ) → Numbered (toldFrom p s bs os)
+unfolding toldFrom
+told-numbered p s bs [] = here-numbered (s .left) bs
+told-numbered p s bs (o ∷ os) =
+    let m = moveOf (nodeAt bs 0) in
+    by-test (eqb (s .left) 0)
+    (λ y. rw y (one-of crewNumbers 9 refl refl))
+    (λ z. rw z
+    (by-test (mayReport p m o)
+    (λ y. rw y (told-numbered p (after (networkOf p) s m o) (fromNode bs (nodesBefore p s bs o)) os))
+    (λ z. rw z (one-of crewNumbers 8 refl refl))))
+
+pub fault-numbered : (n : ℕ) (x : Told) → OneOf (0 ∷ crewNumbers) n → Numbered x → Numbered (unlessFault n x)
+unfolding OneOf unlessFault
+fault-numbered n x (inl e) told = rw e told
+fault-numbered n x (inr h) told = by-test (eqb n 0) (λ y. rw y told) (λ z. rw z h)
+
+pub report-one : (p : Plan) (x : Told) (o : ℕ) → Numbered x → OneOf (0 ∷ crewNumbers) (reportFault p x o)
+unfolding OneOf
+report-one p (instruct m) o told = unless-one (0 ∷ crewNumbers) (mayReport p m o) refusal.Mask refl
+report-one p complete o told = one-of (0 ∷ crewNumbers) 9 refl refl
+report-one p (refuse n) o told = inr told
