@@ -9,7 +9,7 @@ use native.Mathlib.Omega.{arith}
 use borrow.Author.Tests.{lt-ltb}
 use lib.Dec.{eqb}
 use lib.ListN.{length, take, getD, length-append}
-use lib.Seq.{take-at, length-take-le}
+use lib.Seq.{take-all, take-at, length-take-le}
 use Rattle.network.specs.Strategy.{DynamicallyConsistent}
 use Rattle.network.specs.Search.{firstTree}
 use Rattle.network.proofs.Booleans.{by-test, eqb-is, eqb-no, differs}
@@ -27,6 +27,8 @@ use Rattle.tree.specs.Nodes.{nodeCount, mostBytes, legalLength}
 use Rattle.tree.specs.Trees.{treeBytes}
 use Rattle.tree.proofs.NodeLaws.{legal-make}
 use Rattle.plan_text.specs.PlanText.{planText}
+use Rattle.plan_text.specs.ReadPlan.{readPlan}
+use Rattle.plan_text.proofs.PlanTextTheorems as plan-text
 use Rattle.plan_text.proofs.PlanTextTheorems.{read-exactly, refused-zero, at-most-1025}
 use Rattle.tree_text.specs.TreeText.{treeText}
 use Rattle.tree_text.proofs.TreeTextTheorems.{at-most-1724}
@@ -159,6 +161,15 @@ module _ (input : List ℕ) where
       let most = at-most-1025 p (says .1) in
       let all = sym (length-take-le 1026 input long) ∙ ap length (says .0) in
       omega arith
+
+  -- no plan's text is one where it is cut off anywhere
+  pub cut-refused : (p : Plan) → WellFormed p → (r : List ℕ) → planText p ≡ input ++ r → 1 ≤ length r → (q : Plan) → ¬ Says input q
+  cut-refused p wf r e some q says =
+      let most = at-most-1025 p wf in
+      let long = ap length e ∙ length-append input r in
+      let all = take-all 1026 input (omega arith) in
+      let fine = ap (λ (a : Answer Plan). a .fault) (read-exactly (take 1026 input) q .1 says) in
+      plan-text.cut-refused p wf input r e some (sym (ap (λ (t : List ℕ). readPlan t .fault) all) ∙ fine)
 
   -- 1,724 bytes are enough
   pub answer-fits : length (answerText input) ≤ 1724

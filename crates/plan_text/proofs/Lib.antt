@@ -4,6 +4,7 @@ pub mod FilledLaws
 pub mod EntryLaws
 pub mod ReadBackLaws
 pub mod OneTextLaws
+pub mod CutLaws
 pub mod WriteLaws
 pub mod WrittenLaws
 pub mod RefusedLaws

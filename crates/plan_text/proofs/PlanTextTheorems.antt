@@ -2,7 +2,7 @@
 -- proofs.
 use mathlib.Core.Path.{_≡_, sym, ap, _∙_}
 use mathlib.Core.Logic.{_↔_}
-use mathlib.Core.List.{List}
+use mathlib.Core.List.{List, _++_}
 use Prim.Native.Nat.{ℕ, _≤_}
 use native.Mathlib.Omega.{arith}
 use lib.ListN.{length, take}
@@ -21,6 +21,7 @@ use Rattle.plan_text.specs.ReadPlan.{planReadAnswer, readPlan}
 use Rattle.plan_text.proofs.LengthLaws.{plan-length, longest, longest-fine}
 use Rattle.plan_text.proofs.ReadBackLaws.{read-back}
 use Rattle.plan_text.proofs.OneTextLaws.{one-text}
+use Rattle.plan_text.proofs.CutLaws.{nothing-left}
 use Rattle.plan_text.proofs.RefusedLaws.{refused}
 use Rattle.plan_text.proofs.WrittenLaws.{written-fine}
 
@@ -54,6 +55,14 @@ pub written-reads-back :
 written-reads-back p wf six sixty-four xs room =
     let written = written-fine p xs wf room in
     (written, rw (written, filled-front (planText p) xs) (read-back p wf six sixty-four))
+
+-- a plan's text that is cut off is no plan's text: its head says how long the whole is
+pub cut-refused : (p : Plan) → WellFormed p → (t r : List ℕ) → planText p ≡ t ++ r → 1 ≤ length r → ¬ (readPlan t .fault ≡ 0)
+cut-refused p wf t r e some fine =
+    let q = readPlan t .value in
+    let says = read-exactly t q .0 (ap (λ (n : ℕ). record { fault = n; value = q }) fine) in
+    let none = nothing-left p q wf (says .1) r (e ∙ ap (λ (s : List ℕ). s ++ r) (says .0)) in
+    omega arith
 
 -- the longest plan text has 1,025 bytes
 pub at-most-1025 : (p : Plan) → WellFormed p → length (planText p) ≤ 1025

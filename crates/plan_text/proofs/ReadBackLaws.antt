@@ -85,7 +85,7 @@ constraint-back p j c r each h =
 
 -- all values of a well-formed plan are bytes
 module _ (p : Plan) (wf : WellFormed p) where
-  head-bytes : EachByte (1 ∷ p .horizon ∷ p .points ∷ p .letters ∷ p .constraints ∷ [])
+  pub head-bytes : EachByte (1 ∷ p .horizon ∷ p .points ∷ p .letters ∷ p .constraints ∷ [])
   head-bytes = omega (arith, wf .horizon, wf .points, wf .letters, wf .constraints)
 
   letter-bytes : (i : ℕ) → i < p .letters → EachByte (2 ∷ i ∷ letterAt p i .point ∷ letterAt p i .kind ∷ [])
