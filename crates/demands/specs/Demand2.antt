@@ -4,14 +4,15 @@ use mathlib.Core.Path.{_≡_}
 use mathlib.Core.Logic.{_↔_}
 use mathlib.Core.Bool.{true}
 use mathlib.Core.List.{List, _++_}
-use Prim.Native.Nat.{ℕ, _≤_, _<_}
-use lib.ListN.{length, getD, take, drop}
+use Prim.Native.Nat.{ℕ, _≤_}
+use lib.ListN.{length, take, drop}
 use Rattle.network.specs.Strategy.{Strategy, Viable, Dynamic}
 use Rattle.network.specs.Tree.{Tree, strategyOf}
 use Rattle.plan.specs.declared.Plan.{Plan}
 use Rattle.plan.specs.Answer.{fine}
 use Rattle.plan.specs.Plan.{networkOf}
 use Rattle.plan.specs.WellFormed.{WellFormed}
+use Rattle.frame.specs.Frame.{Bytes}
 use Rattle.tree.specs.Nodes.{mostBytes, legalLength, nodeCount}
 use Rattle.tree.specs.Trees.{Describes}
 use Rattle.plan_text.specs.PlanText.{planText, writePlan, writePlanLeaves}
@@ -19,12 +20,9 @@ use Rattle.plan_text.specs.ReadPlan.{readPlan}
 use Rattle.tree_text.specs.TreeText.{treeText, writeTree, writeTreeLeaves, readNodes, bytesIn, readTree, readTreeLeaves}
 use Rattle.checker.specs.Checker.{checkFault}
 
--- a record's arrays have six and 64 places, and bytes are below 256, by their types
+-- a record's arrays have six and 64 places by their types (and a slice's entries are `Bytes`)
 abbrev pub Sized : Plan → Type 0
 Sized p = (length (p .letter) ≡ 6) × (length (p .constraint) ≡ 64)
-
-abbrev pub Bytes : List ℕ → Type 0
-Bytes bs = (k : ℕ) → getD bs k 0 < 256
 
 -- the bytes describe this strategy: that of a tree that is sound in shape and has just these bytes
 abbrev pub DescribesStrategy : Plan → List ℕ → Strategy → Type 0

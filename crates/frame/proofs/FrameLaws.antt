@@ -12,12 +12,8 @@ use Rattle.network.proofs.Booleans.{and-left, and-right, and-make, ltb-yes, ltb
 use Rattle.network.proofs.BelowLaws.{all-at, all-make}
 use Rattle.plan.specs.Plan.{listed}
 use Rattle.frame.specs.Hex.{digitOf, pairOf, hexDigit}
-use Rattle.frame.specs.Frame.{frameLength, frameText, byteAt, valueAt, whole}
+use Rattle.frame.specs.Frame.{Bytes, frameLength, frameText, byteAt, valueAt, whole}
 use Rattle.frame.proofs.HexLaws.{byte-back, byte-digits}
-
--- every entry is a byte
-abbrev pub Bytes : List ℕ → Type 0
-Bytes bs = (k : ℕ) → getD bs k 0 < 256
 
 -- the same as `Bytes`, one by one
 abbrev pub EachByte : List ℕ → Type 0

@@ -1,13 +1,17 @@
 -- Definitions: a frame: a line of bytes, two digits each, and a line feed. Its first byte is its kind. A reader must believe this file.
 use mathlib.Core.Bool.{Bool, _&&_}
 use mathlib.Core.List.{List, [], _∷_}
-use Prim.Native.Nat.{ℕ, _+_, _*_, _/_, _%_}
+use Prim.Native.Nat.{ℕ, _+_, _*_, _/_, _%_, _<_}
 use lib.Dec.{ltb, eqb}
 use lib.ListN.{getD}
 use Rattle.network.specs.Mask.{allBelow}
 use Rattle.plan.specs.declared.Refusal.{Refusal}
 use Rattle.plan.specs.Refusal.{refusalNumber}
 use Rattle.frame.specs.Hex.{digitOf, pairOf, hexDigit}
+
+-- every entry of a list is a byte
+abbrev pub Bytes : List ℕ → Type 0
+Bytes bs = (k : ℕ) → getD bs k 0 < 256
 
 -- ---- the text of a frame
 

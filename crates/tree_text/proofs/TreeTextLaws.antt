@@ -17,9 +17,9 @@ use Rattle.plan.specs.declared.Refusal.the-variants as refusal
 use Rattle.plan.specs.Refusal.{refusalNumber}
 use Rattle.plan.specs.Answer.{unless, first, Answer, fine, refused, answered}
 use Rattle.plan.specs.Plan.{listed}
-use Rattle.frame.specs.Frame.{frameLength, valueAt, whole}
+use Rattle.frame.specs.Frame.{Bytes, frameLength, valueAt, whole}
 use Rattle.frame.specs.Texts.{frameFault, atEnd}
-use Rattle.frame.proofs.FrameLaws.{Bytes, bytes, bytes-append, value-back, whole-back, frame-behind, whole-said}
+use Rattle.frame.proofs.FrameLaws.{bytes, bytes-append, value-back, whole-back, frame-behind, whole-said}
 use Rattle.plan.proofs.AnswerLaws.{unless-of}
 use Rattle.frame.proofs.RunLaws.{frame-fault-of, then-each, run-each, frame-read, frame-read-is, at-end, at-end-is, then-goes, then-fine, run-back, run-invariant}
 use Rattle.tree.specs.Nodes.{nodeCount, mostNodes, mostBytes, legalLength, nodeBytes, nodeAt}

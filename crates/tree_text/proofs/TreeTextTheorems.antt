@@ -9,7 +9,7 @@ use native.Mathlib.Omega.{arith}
 use lib.ListN.{length, drop, take, replicate}
 use Rattle.plan.specs.declared.Refusal.the-variants as refusal
 use Rattle.plan.specs.Answer.{Answer, fine, refused, filled}
-use Rattle.frame.proofs.FrameLaws.{Bytes}
+use Rattle.frame.specs.Frame.{Bytes}
 use Rattle.frame.proofs.RunLaws.{filled-is, filled-front}
 use Rattle.tree.specs.Nodes.{nodeCount, mostBytes, legalLength}
 use Rattle.tree.proofs.NodeLaws.{legal-is}
