@@ -41,11 +41,11 @@ unfolding listed
 length-listed zero f = refl
 length-listed (suc n) f = ap suc (length-listed n (λ i. f (suc i)))
 
-pub get-listed : (n : ℕ) (f : ℕ → ℕ) (i : ℕ) → i < n → getD (listed n f) i 0 ≡ f i
+pub get-listed : {A : Type 0} (d : A) (n : ℕ) (f : ℕ → A) (i : ℕ) → i < n → getD (listed n f) i d ≡ f i
 unfolding listed
-get-listed zero f i h = absurd (omega arith)
-get-listed (suc n) f zero h = refl
-get-listed (suc n) f (suc i) h = get-listed n (λ i. f (suc i)) i (omega arith)
+get-listed d zero f i h = absurd (omega arith)
+get-listed d (suc n) f zero h = refl
+get-listed d (suc n) f (suc i) h = get-listed d n (λ i. f (suc i)) i (omega arith)
 
 -- the entries before x are those of f, the others as they were
 pub record Filled (n : ℕ) (f : ℕ → ℕ) (old : List ℕ) (x : ℕ) (now : List ℕ) : Type 0 where
@@ -87,4 +87,4 @@ module _ {n : ℕ} {f : ℕ → ℕ} {old : List ℕ} where
   fill-end {now} r =
       let l = r .long in
       ext-getD 0 now (listed n f) (l ∙ sym (length-listed n f))
-      (λ i lt. let h : i < n = omega arith in r .passed i h ∙ sym (get-listed n f i h))
+      (λ i lt. let h : i < n = omega arith in r .passed i h ∙ sym (get-listed 0 n f i h))

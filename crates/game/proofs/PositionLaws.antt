@@ -192,7 +192,7 @@ module _ (p : Plan) (wf : WellFormed p) where
           slotsIn (positionAfter at v o .slots) x ≡ cond (bit (v .points) x) (v .slot) (slotsIn (at .slots) x)
       slots-after long x =
           by-cases (decLt x 8)
-          (λ lt. get-listed 8 _ x lt)
+          (λ lt. get-listed 0 8 _ x lt)
           (λ ge. let new = after-long at v o in
           let few = wf .points in
           let none : bit (v .points) x ≡ false

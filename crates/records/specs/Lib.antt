@@ -1,0 +1,2 @@
+-- Definitions: the modules of this folder. A reader must believe them.
+pub mod Records

@@ -1,0 +1,32 @@
+-- What each case says. Only the checker need believe this file.
+use mathlib.Core.Path.{_∙_}
+use Rattle.tureenlark.proofs.NumberLaws.{found-least, found-none, found-refused}
+use borrow.Author.Needs.{needs}
+use Rattle.tureenlark.proofs.numbers.found.Statement.{statement}
+use Rattle.tureenlark.proofs.numbers.found.Tie as tie
+
+enum-told : tie.Need-enum-told
+enum-told c = search needs
+
+enum-told-2 : tie.Need-enum-told-2
+enum-told-2 c = search needs
+
+enum-known-answer : tie.Need-enum-known-answer
+enum-known-answer c = search needs
+
+refused-requires : tie.Need-refused-requires
+refused-requires c κs = search needs
+
+returns : tie.Need-returns
+returns c = found-least (c .before .before .args .answer) (c .before .before .args .slots) (c .enum-told .given .1)
+
+returns-2 : tie.Need-returns-2
+returns-2 c = found-none (c .before .before .args .answer) (c .before .before .args .slots) (c .enum-told2 .given .1)
+
+returns-3 : tie.Need-returns-3
+returns-3 c = c .refused .ensures ∙ found-refused (c .before .before .before .before .args .answer) (c .before .before .before .before .args .slots) (c .before .before .answer .given .0 .0) (c .before .before .answer .given .1)
+
+pub found-spec : {M : Type 1} → statement M
+found-spec =
+    tie.close
+    (tie.spec enum-told enum-told-2 enum-known-answer refused-requires returns returns-2 returns-3)

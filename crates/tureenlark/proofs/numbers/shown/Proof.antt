@@ -1,0 +1,32 @@
+-- What each case says. Only the checker need believe this file.
+use mathlib.Core.Path.{_∙_}
+use Rattle.tureenlark.proofs.NumberLaws.{told-refused}
+use borrow.Author.Needs.{needs}
+use Rattle.tureenlark.proofs.numbers.shown.Statement.{statement}
+use Rattle.tureenlark.proofs.numbers.shown.Tie as tie
+
+enum-told : tie.Need-enum-told
+enum-told c = search needs
+
+enum-told-2 : tie.Need-enum-told-2
+enum-told-2 c = search needs
+
+enum-known-answer : tie.Need-enum-known-answer
+enum-known-answer c = search needs
+
+refused-requires : tie.Need-refused-requires
+refused-requires c κs = search needs
+
+returns : tie.Need-returns
+returns c = search needs
+
+returns-2 : tie.Need-returns-2
+returns-2 c = search needs
+
+returns-3 : tie.Need-returns-3
+returns-3 c = c .refused .ensures ∙ told-refused (c .before .before .before .before .args .answer) (c .before .before .answer .given .0 .0) (c .before .before .answer .given .1)
+
+pub shown-spec : {M : Type 1} → statement M
+shown-spec =
+    tie.close
+    (tie.spec enum-told enum-told-2 enum-known-answer refused-requires returns returns-2 returns-3)

@@ -1,0 +1,42 @@
+-- Short records are refused; else the call is made of the plan that the bytes say. Only the checker need believe this file.
+use denote.Ref.{now}
+use mathlib.Core.Path.{_∙_, ap}
+use native.Mathlib.Omega.{arith}
+use Prim.Native.Nat.{ℕ}
+use Rattle.tureenlark.specs.Numbers.{numbered}
+use Rattle.plan.specs.declared.Plan.{Plan}
+use Rattle.records.specs.Records.{planIn}
+use Rattle.judge.specs.Judge.{planFault}
+use Rattle.tureenlark.specs.Library.{planShort}
+use Rattle.tureenlark.proofs.LibraryLaws.{short, long, number-short, number-long}
+use borrow.Author.Needs.{needs}
+use Rattle.tureenlark.proofs.tureenlark_judge_plan.Statement.{statement}
+use Rattle.tureenlark.proofs.tureenlark_judge_plan.Tie as tie
+
+refused-requires : tie.Need-refused-requires
+refused-requires c κs = search needs
+
+returns : tie.Need-returns
+returns c =
+    let b = now (c .before .before .before .args .plan) in
+    c .refused .ensures ∙ number-short (planShort b) (planFault (planIn b)) 1 (short 400 b (omega arith))
+
+plan-in-requires : tie.Need-plan-in-requires
+plan-in-requires c κs = search needs
+
+judge-requires : tie.Need-judge-requires
+judge-requires c κs = search needs
+
+judged-requires : tie.Need-judged-requires
+judged-requires c κs = search needs
+
+returns-2 : tie.Need-returns-2
+returns-2 c =
+    let b = now (c .before .before .before .before .before .args .plan) in
+    c .judged .ensures ∙ ap (λ (n : ℕ). numbered n 1) (c .before .judge .ensures ∙ ap planFault (c .before .before .plan-in .ensures))
+    ∙ number-long (planShort b) (planFault (planIn b)) 1 (long 400 b (omega arith))
+
+pub tureenlark-judge-plan-spec : {M : Type 1} → statement M
+tureenlark-judge-plan-spec =
+    tie.close
+    (tie.spec refused-requires returns plan-in-requires judge-requires judged-requires returns-2)

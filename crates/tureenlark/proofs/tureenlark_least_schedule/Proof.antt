@@ -1,0 +1,94 @@
+-- Short records are refused; else the call is made of the plan that the bytes say. Only the checker need believe this file.
+use denote.Ref.{now}
+use mathlib.Core.Path.{_≡_, sym, _∙_, ap}
+use native.Mathlib.Omega.{arith}
+use Prim.Native.Nat.{_≤_}
+use mathlib.Core.List.{List}
+use lib.ListN.{length}
+use Rattle.network.specs.Mask.{digit}
+use Rattle.plan.specs.declared.Plan.{Plan}
+use Rattle.plan.specs.Answer.{Answer, putAt}
+use Rattle.verdict.specs.Verdict.{Fixed, leastSchedule, verdictAnswer}
+use Rattle.records.specs.Records.{planIn}
+use Rattle.tureenlark.specs.Numbers.{fixedNumber}
+use Rattle.tureenlark.specs.Library.{planShort, shortFault, scheduleShort}
+use Rattle.tureenlark.proofs.LibraryLaws.{short, long, first-short, then-short, number-short, number-long, filled-short, put-long, said-slots}
+use borrow.Author.Needs.{needs}
+use Rattle.tureenlark.proofs.tureenlark_least_schedule.Statement.{statement}
+use Rattle.tureenlark.proofs.tureenlark_least_schedule.Tie as tie
+
+refused-requires : tie.Need-refused-requires
+refused-requires c κs = search needs
+
+returns : tie.Need-returns
+returns c =
+    let b = now (c .before .before .before .before .args .plan) in
+    let s = now (c .before .before .before .before .args .schedule) in
+    let a = leastSchedule (planIn b) (c .before .before .before .before .args .values) in
+    let e = first-short (planShort b) (shortFault 8 s) (short 400 b (omega arith)) in (
+      c .refused .ensures ∙ number-short (scheduleShort b s) (a .fault) (digit (a .value .scheduled)) e,
+      filled-short (scheduleShort b s) (a .value .slots) s e,
+    )
+
+refused-requires-2 : tie.Need-refused-requires-2
+refused-requires-2 c κs = search needs
+
+returns-2 : tie.Need-returns-2
+returns-2 c =
+    let b = now (c .before .before .before .before .before .args .plan) in
+    let s = now (c .before .before .before .before .before .args .schedule) in
+    let a = leastSchedule (planIn b) (c .before .before .before .before .before .args .values) in
+    let e = then-short (planShort b) (shortFault 8 s) 10 (long 400 b (omega arith)) (short 8 s (omega arith)) in (
+      c .refused2 .ensures ∙ number-short (scheduleShort b s) (a .fault) (digit (a .value .scheduled)) e,
+      filled-short (scheduleShort b s) (a .value .slots) s e,
+    )
+
+plan-in-requires : tie.Need-plan-in-requires
+plan-in-requires c κs = search needs
+
+least-schedule-requires : tie.Need-least-schedule-requires
+least-schedule-requires c κs = search needs
+
+slice-aggregate-put-bytes : tie.Need-slice-aggregate-put-bytes
+slice-aggregate-put-bytes c = search needs
+
+put-bytes-requires : tie.Need-put-bytes-requires
+put-bytes-requires c κs = search needs
+
+found-requires : tie.Need-found-requires
+found-requires c κs = search needs
+
+same-length : tie.Need-same-length
+same-length c = search needs
+
+returns-3 : tie.Need-returns-3
+returns-3 c =
+    let b = now (c .before .before .before .before .before .before .before .before .before .before .before .before .before .args .plan) in
+    let s = now (c .before .before .before .before .before .before .before .before .before .before .before .before .before .args .schedule) in
+    let a = leastSchedule (planIn b) (c .before .before .before .before .before .before .before .before .before .before .before .before .before .args .values) in
+    let e = then-short (planShort b) (shortFault 8 s) 0 (long 400 b (omega arith)) (long 8 s (omega arith)) in
+    let v = c .before .before .before .before .before .before .before .least-schedule .result in
+    let said : verdictAnswer v ≡ a =
+    c .before .before .before .before .before .before .before .least-schedule .ensures ∙ ap (λ (p : Plan). leastSchedule p (c .before .before .before .before .before .before .before .before .before .before .before .before .before .args .values)) (c .before .before .before .before .before .before .before .before .plan-in .ensures) in
+    let slots : v .slots ≡ a .value .slots = said-slots (v .found) (v .slots) ∙ ap (λ (x : Answer Fixed). x .value .slots) said in
+    let eight : length (v .slots) ≡ 8 = search needs in
+    let room : length (a .value .slots) ≤ length s = rw (← slots) (omega arith) in (
+      c .found .ensures ∙ ap fixedNumber said ∙ number-long (scheduleShort b s) (a .fault) (digit (a .value .scheduled)) e,
+      c .before .before .before .put-bytes .ensures ∙ ap (putAt s 0) slots ∙ put-long (scheduleShort b s) (a .value .slots) s e room,
+    )
+
+pub tureenlark-least-schedule-spec : {M : Type 1} → statement M
+tureenlark-least-schedule-spec =
+    tie.close
+    (tie.spec
+    refused-requires
+    returns
+    refused-requires-2
+    returns-2
+    plan-in-requires
+    least-schedule-requires
+    slice-aggregate-put-bytes
+    put-bytes-requires
+    found-requires
+    same-length
+    returns-3)

@@ -1,0 +1,61 @@
+-- Short records are refused; else the call is made of the plan that the bytes say. Only the checker need believe this file.
+use denote.Ref.{now}
+use mathlib.Core.Path.{_∙_, ap}
+use native.Mathlib.Omega.{arith}
+use Rattle.plan.specs.declared.Plan.{Plan}
+use Rattle.records.specs.Records.{planIn}
+use Rattle.tureenlark.specs.Numbers.{answerNumber}
+use Rattle.search.specs.Search.{searchAnswer, searchLeaves}
+use Rattle.tureenlark.specs.Library.{planShort}
+use Rattle.tureenlark.proofs.LibraryLaws.{short, long, number-short, number-long, left-short, left-long}
+use borrow.Author.Needs.{needs}
+use Rattle.tureenlark.proofs.tureenlark_search.Statement.{statement}
+use Rattle.tureenlark.proofs.tureenlark_search.Tie as tie
+
+refused-requires : tie.Need-refused-requires
+refused-requires c κs = search needs
+
+returns : tie.Need-returns
+returns c =
+    let b = now (c .before .before .before .before .args .plan) in
+    let t = now (c .before .before .before .before .args .tree) in
+    let e = short 400 b (omega arith) in (
+      c .refused .ensures ∙ number-short (planShort b) (searchAnswer (planIn b) t .fault) (searchAnswer (planIn b) t .value) e,
+      left-short (planShort b) (searchLeaves (planIn b) t) t e,
+    )
+
+plan-in-requires : tie.Need-plan-in-requires
+plan-in-requires c κs = search needs
+
+search-requires : tie.Need-search-requires
+search-requires c κs = search needs
+
+searched-requires : tie.Need-searched-requires
+searched-requires c κs = search needs
+
+same-length : tie.Need-same-length
+same-length c = search needs
+
+returns-2 : tie.Need-returns-2
+returns-2 c =
+    let b = now (c .before .before .before .before .before .before .before .before .before .args .plan) in
+    let t = now (c .before .before .before .before .before .before .before .before .before .args .tree) in
+    let e = long 400 b (omega arith) in
+    let is = c .before .before .before .before .before .plan-in .ensures in
+    let said = c .before .before .before .search .ensures in (
+      c .searched .ensures ∙ ap answerNumber (said .0 ∙ ap (λ (p : Plan). searchAnswer p t) is)
+          ∙ number-long (planShort b) (searchAnswer (planIn b) t .fault) (searchAnswer (planIn b) t .value) e,
+      said .1 ∙ ap (λ (p : Plan). searchLeaves p t) is ∙ left-long (planShort b) (searchLeaves (planIn b) t) t e,
+    )
+
+pub tureenlark-search-spec : {M : Type 1} → statement M
+tureenlark-search-spec =
+    tie.close
+    (tie.spec
+    refused-requires
+    returns
+    plan-in-requires
+    search-requires
+    searched-requires
+    same-length
+    returns-2)
