@@ -6,8 +6,9 @@
  * A buffer is a pointer and then a length. The pointer must point to that many bytes, and must not be null even where the length is 0.
  * A buffer that is not const must overlap no other. Only the bytes that a call names change.
  *
- * Records are bytes: a plan 400, a history 9, an instruction 3, a schedule 8, steps 32. A buffer that is shorter than its record gets
- * refusal 10 before anything else is looked at; bytes behind the record are neither read nor changed.
+ * Records are bytes: a plan 400, a history 9, an instruction 3, a schedule 8, steps 32. Any call with a buffer that is shorter than its
+ * record is refused with 10 before anything else is looked at, and no byte changes; bytes behind a record are neither read nor changed.
+ * A tree that is handed in has just its nodes' bytes: its length is three times the number of nodes, not that of the buffer it stands in.
  */
 #ifndef TUREENLARK_H
 #define TUREENLARK_H
@@ -49,20 +50,21 @@ enum tureenlark_refusal {
 /* 1 where the record is a well-formed plan; or 2, 3, 4. */
 size_t tureenlark_judge_plan(const uint8_t *plan, size_t plan_length);
 
-/* 1, and the first 400 bytes of `plan` are the record that the text says; or 1, 2, 3, 4, and they are zero. */
+/* 1, and the first 400 bytes of `plan` are the record that the text says; or refused with 1, 2, 3, 4, and they are zero. */
 size_t tureenlark_read_plan(const uint8_t *text, size_t text_length, uint8_t *plan, size_t plan_length);
 
-/* The length of the plan's text, which is put at the front of `text`; or 2, 3, 4, 10, and no byte changes. */
+/* The length of the plan's text, which is put at the front of `text`; or 2, 3, 4, 10 (fewer bytes than the text has), and no byte changes. */
 size_t tureenlark_write_plan(const uint8_t *plan, size_t plan_length, uint8_t *text, size_t text_length);
 
 /* The number of nodes of the tree that the text says, three bytes each, put at the front of `tree`; or 10 (fewer than 573 bytes), 5, and no
  * byte changes. */
 size_t tureenlark_read_tree(const uint8_t *text, size_t text_length, uint8_t *tree, size_t tree_length);
 
-/* The length of the tree's text, which is put at the front of `text`; or 6 (a length that no tree has), 10, and no byte changes. */
+/* The length of the tree's text, which is put at the front of `text`; or 6 (a length that no tree has), 10 (fewer bytes than the text has),
+ * and no byte changes. No shape is judged. */
 size_t tureenlark_write_tree(const uint8_t *tree, size_t tree_length, uint8_t *text, size_t text_length);
 
-/* 1 where the bytes are a tree whose every path keeps the plan; or 2, 3, 4, 6, 7. `tree_length` is three times the number of nodes. */
+/* 1 where the bytes are a tree whose every path keeps the plan; or 2, 3, 4, 6, 7. */
 size_t tureenlark_check_tree(const uint8_t *plan, size_t plan_length, const uint8_t *tree, size_t tree_length);
 
 /* The number of nodes of the tree of first moves, which is put into `tree`, zeros behind it up to byte 573; or 10 (fewer than 573 bytes), 2,
@@ -80,14 +82,15 @@ size_t tureenlark_report(const uint8_t *plan, size_t plan_length, const uint8_t 
 
 /* The calls of a list, two bytes each, one after the other from this history on: 0 and any byte shows, any other byte and a mask reports that
  * mask; an odd last byte is no call. The number of accepted reports; `history` holds the history that is left, and the first 32 bytes of
- * `steps`, four for each accepted report, hold the slot, points and choices told and the mask, zeros behind them. Refused calls change
- * nothing, as in a run. */
+ * `steps`, four for each accepted report, hold the slot, points and choices told and the mask, zeros behind them. A call of the list that is
+ * refused, for the plan, the tree, the history or the mask, changes nothing and the list goes on; nothing but a short record is refused as
+ * a whole. */
 size_t tureenlark_follow(const uint8_t *plan, size_t plan_length, const uint8_t *tree, size_t tree_length,
                          uint8_t *history, size_t history_length, const uint8_t *calls, size_t calls_length,
                          uint8_t *steps, size_t steps_length);
 
 /* 1, and the first eight bytes of `schedule` are the least slots where the letters of `values` are true and the others false; 0 where there
- * is no schedule; or 2, 3, 4, 8. With 0 and with a refusal the eight bytes are zero. */
+ * is no schedule; or 2, 3, 4, 8. With 0 and with these refusals the eight bytes are zero. */
 size_t tureenlark_least_schedule(const uint8_t *plan, size_t plan_length, uint8_t values, uint8_t *schedule,
                                  size_t schedule_length);
 

@@ -6,6 +6,9 @@ ghost use mathlib.Core.Path.{_≡_};
 ghost use Rattle.plan.specs.Answer.{putAt};
 ghost use Rattle.records.specs.Records.{historyIn, historyBytes};
 
+// How many bytes the record of a history has.
+pub const LENGTH: usize = 9;
+
 // The history that a record of any bytes says. Bytes that are missing are zero, and those behind the first nine are not looked at.
 pub fn history_in(source: &[u8]) -> History
     ensures { λ r. ⌜ r ≡ historyIn (now (source .entry)) ⌝ }
@@ -29,7 +32,7 @@ pub fn history_in(source: &[u8]) -> History
 pub fn put_history(out: &mut [u8], h: History)
     ensures { λ r. ⌜ now (out .exit) ≡ putAt (now (out .entry)) 0 (historyBytes h) ⌝ }
 {
-    if out.len() < 9 {
+    if out.len() < LENGTH {
         return;
     }
     let masks = h.masks;

@@ -13,6 +13,9 @@ ghost use Rattle.plan.specs.Plan.{listed};
 ghost use Rattle.plan.specs.Answer.{putAt};
 ghost use Rattle.records.specs.Records.{letterFrom, constraintFrom, planIn, letterBytes, constraintBytes, lettersBytes, constraintsBytes, planBytes};
 
+// How many bytes the record of a plan has.
+pub const LENGTH: usize = 400;
+
 // The letter that stands at place `at`.
 fn letter_from(source: &[u8], at: usize) -> Letter
     requires { ⌜ at + 2 ≤ 400 ⌝ }
@@ -131,7 +134,7 @@ fn put_constraints(out: &mut [u8], p: Plan)
 pub fn put_plan(out: &mut [u8], p: Plan)
     ensures { λ r. ⌜ now (out .exit) ≡ putAt (now (out .entry)) 0 (planBytes p) ⌝ }
 {
-    if out.len() < 400 {
+    if out.len() < LENGTH {
         return;
     }
     storing::put_bytes(out, 0, &[p.horizon, p.points, p.letters, p.constraints]);

@@ -18,7 +18,7 @@ ghost use Rattle.tureenlark.specs.Library.{leastScheduleNumber, leastSch
 pub extern "C" fn tureenlark_judge_plan(plan: &[u8]) -> usize
     ensures { λ r. ⌜ r ≡ judgePlanNumber (now (plan .entry)) ⌝ }
 {
-    if plan.len() < 400 {
+    if plan.len() < plan_record::LENGTH {
         return numbers::refused(Refusal::Buffer);
     }
     numbers::judged(judge::judge(plan_record::plan_in(plan)))
@@ -30,7 +30,7 @@ pub extern "C" fn tureenlark_read_plan(text: &[u8], plan: &mut [u8]) -> usize
     ensures answer { λ r. ⌜ r ≡ readPlanNumber (now (text .entry)) (now (plan .entry)) ⌝ }
     ensures buffer { λ r. ⌜ now (plan .exit) ≡ readPlanLeft (now (text .entry)) (now (plan .entry)) ⌝ }
 {
-    if plan.len() < 400 {
+    if plan.len() < plan_record::LENGTH {
         return numbers::refused(Refusal::Buffer);
     }
     let read = plan_text::reading::read_plan(text);
@@ -45,7 +45,7 @@ pub extern "C" fn tureenlark_write_plan(plan: &[u8], text: &mut [u8]) -> usize
     ensures answer { λ r. ⌜ r ≡ writePlanNumber (now (plan .entry)) (now (text .entry)) ⌝ }
     ensures buffer { λ r. ⌜ now (text .exit) ≡ writePlanLeft (now (plan .entry)) (now (text .entry)) ⌝ }
 {
-    if plan.len() < 400 {
+    if plan.len() < plan_record::LENGTH {
         return numbers::refused(Refusal::Buffer);
     }
     numbers::written(plan_text::writing::write_plan(plan_record::plan_in(plan), text))
@@ -74,7 +74,7 @@ pub extern "C" fn tureenlark_write_tree(tree: &[u8], text: &mut [u8]) -> usize
 pub extern "C" fn tureenlark_check_tree(plan: &[u8], tree: &[u8]) -> usize
     ensures { λ r. ⌜ r ≡ checkTreeNumber (now (plan .entry)) (now (tree .entry)) ⌝ }
 {
-    if plan.len() < 400 {
+    if plan.len() < plan_record::LENGTH {
         return numbers::refused(Refusal::Buffer);
     }
     numbers::judged(checker::check_tree(plan_record::plan_in(plan), tree))
@@ -86,7 +86,7 @@ pub extern "C" fn tureenlark_search(plan: &[u8], tree: &mut [u8]) -> usize
     ensures answer { λ r. ⌜ r ≡ searchNumber (now (plan .entry)) (now (tree .entry)) ⌝ }
     ensures buffer { λ r. ⌜ now (tree .exit) ≡ searchLeft (now (plan .entry)) (now (tree .entry)) ⌝ }
 {
-    if plan.len() < 400 {
+    if plan.len() < plan_record::LENGTH {
         return numbers::refused(Refusal::Buffer);
     }
     numbers::searched(search::search(plan_record::plan_in(plan), tree))
@@ -103,13 +103,13 @@ pub extern "C" fn tureenlark_show(
     ensures answer { λ r. ⌜ r ≡ showNumber (now (plan .entry)) (now (tree .entry)) (now (history .entry)) (now (instruction .entry)) ⌝ }
     ensures buffer { λ r. ⌜ now (instruction .exit) ≡ showLeft (now (plan .entry)) (now (tree .entry)) (now (history .entry)) (now (instruction .entry)) ⌝ }
 {
-    if plan.len() < 400 {
+    if plan.len() < plan_record::LENGTH {
         return numbers::refused(Refusal::Buffer);
     }
-    if history.len() < 9 {
+    if history.len() < history::LENGTH {
         return numbers::refused(Refusal::Buffer);
     }
-    if instruction.len() < 3 {
+    if instruction.len() < steps::INSTRUCTION {
         return numbers::refused(Refusal::Buffer);
     }
     let shown = run::show(
@@ -127,10 +127,10 @@ pub extern "C" fn tureenlark_report(plan: &[u8], tree: &[u8], history: &mut [u8]
     ensures answer { λ r. ⌜ r ≡ reportNumber (now (plan .entry)) (now (tree .entry)) (now (history .entry)) mask ⌝ }
     ensures buffer { λ r. ⌜ now (history .exit) ≡ reportLeft (now (plan .entry)) (now (tree .entry)) (now (history .entry)) mask ⌝ }
 {
-    if plan.len() < 400 {
+    if plan.len() < plan_record::LENGTH {
         return numbers::refused(Refusal::Buffer);
     }
-    if history.len() < 9 {
+    if history.len() < history::LENGTH {
         return numbers::refused(Refusal::Buffer);
     }
     let given = history::history_in(history);
@@ -153,13 +153,13 @@ pub extern "C" fn tureenlark_follow(
     ensures left { λ r. ⌜ now (history .exit) ≡ followHistory (now (plan .entry)) (now (tree .entry)) (now (history .entry)) (now (calls .entry)) (now (steps .entry)) ⌝ }
     ensures followed { λ r. ⌜ now (steps .exit) ≡ followSteps (now (plan .entry)) (now (tree .entry)) (now (history .entry)) (now (calls .entry)) (now (steps .entry)) ⌝ }
 {
-    if plan.len() < 400 {
+    if plan.len() < plan_record::LENGTH {
         return numbers::refused(Refusal::Buffer);
     }
-    if history.len() < 9 {
+    if history.len() < history::LENGTH {
         return numbers::refused(Refusal::Buffer);
     }
-    if steps.len() < 32 {
+    if steps.len() < steps::STEPS {
         return numbers::refused(Refusal::Buffer);
     }
     let given = history::history_in(history);
@@ -175,7 +175,7 @@ pub extern "C" fn tureenlark_least_schedule(plan: &[u8], values: u8, schedule: &
     ensures answer { λ r. ⌜ r ≡ leastScheduleNumber (now (plan .entry)) values (now (schedule .entry)) ⌝ }
     ensures buffer { λ r. ⌜ now (schedule .exit) ≡ leastScheduleLeft (now (plan .entry)) values (now (schedule .entry)) ⌝ }
 {
-    if plan.len() < 400 {
+    if plan.len() < plan_record::LENGTH {
         return numbers::refused(Refusal::Buffer);
     }
     if schedule.len() < 8 {
@@ -193,7 +193,7 @@ pub extern "C" fn tureenlark_least_schedule(plan: &[u8], values: u8, schedule: &
 pub extern "C" fn tureenlark_screen(plan: &[u8]) -> usize
     ensures { λ r. ⌜ r ≡ screenNumber (now (plan .entry)) ⌝ }
 {
-    if plan.len() < 400 {
+    if plan.len() < plan_record::LENGTH {
         return numbers::refused(Refusal::Buffer);
     }
     numbers::screened(verdict::screen::screen_plan(plan_record::plan_in(plan)))

@@ -13,6 +13,11 @@ ghost use Rattle.run.specs.Run.{shownTold};
 ghost use Rattle.following.specs.Following.{zeroStep};
 ghost use Rattle.tureenlark.specs.Library.{toldBytes, stepBytes};
 
+// How many bytes an instruction has, and eight steps.
+pub const INSTRUCTION: usize = 3;
+
+pub const STEPS: usize = 32;
+
 // The instruction at the front of the buffer. Where there is none, or no room for it, nothing changes.
 pub fn put_told(out: &mut [u8], told: Shown)
     ensures { λ r. ⌜ now (out .exit) ≡ putAt (now (out .entry)) 0 (toldBytes (shownTold told)) ⌝ }

@@ -9,7 +9,7 @@ use lib.Seq.{length-take-le}
 use Rattle.plan.specs.Answer.{putAt}
 use Rattle.answer_text.specs.declared.AnswerText.{AnswerText}
 use Rattle.answer_text.specs.AnswerText.{answerText}
-use Rattle.tureenlark.proofs.AnswerLaws.{held-length, held-fits, held-text}
+use Rattle.answer_text.proofs.AnswerTextTheorems.{text-is, text-inside}
 use Rattle.tureenlark.specs.Library.{answerFault}
 use Rattle.tureenlark.proofs.LibraryLaws.{number-refused, number-fine, filled-short, put-long, no-room, room}
 use borrow.Author.Needs.{needs}
@@ -27,17 +27,17 @@ returns c =
     let input = now (c .before .before .before .before .before .before .args .input) in
     let t = now (c .before .before .before .before .before .before .args .text) in
     let is = c .before .before .before .answer-to .ensures in
-    let n = held-length input (c .before .before .before .answer-to .result) is in
+    let n = ap (λ (x : AnswerText). x .length) is in
     let e = no-room (answerText input) t (rw (← n) (omega arith)) in
     (c .refused .ensures ∙ number-refused (answerFault input t) (length (answerText input)) e, filled-short (answerFault input t) (answerText input) t e)
 
 array-share-prefix-bytes : tie.Need-array-share-prefix-bytes
-array-share-prefix-bytes c = held-fits (now (c .before .before .before .before .before .before .args .input)) (c .before .before .before .answer-to .result) (c .before .before .before .answer-to .ensures)
+array-share-prefix-bytes c = text-inside (now (c .before .before .before .before .before .before .args .input)) (c .before .before .before .answer-to .result) (c .before .before .before .answer-to .ensures)
 
 slice-aggregate-put-bytes : tie.Need-slice-aggregate-put-bytes
 slice-aggregate-put-bytes c =
     let r = c .before .before .before .before .answer-to .result in
-    sym (length-take-le (r .length) (r .bytes) (held-fits (now (c .before .before .before .before .before .before .before .args .input)) r (c .before .before .before .before .answer-to .ensures)))
+    sym (length-take-le (r .length) (r .bytes) (text-inside (now (c .before .before .before .before .before .before .before .args .input)) r (c .before .before .before .before .answer-to .ensures)))
 
 put-bytes-requires : tie.Need-put-bytes-requires
 put-bytes-requires c κs = search needs
@@ -51,11 +51,11 @@ returns-2 c =
     let t = now (c .before .before .before .before .before .before .before .before .before .before .args .text) in
     let is = c .before .before .before .before .before .before .before .answer-to .ensures in
     let r = c .before .before .before .before .before .before .before .answer-to .result in
-    let n = held-length input r is in
+    let n = ap (λ (x : AnswerText). x .length) is in
     let h : length (answerText input) ≤ length t = rw (← n) (omega arith) in
     let e = room (answerText input) t h in (
       n ∙ number-fine (answerFault input t) (length (answerText input)) e,
-      c .before .before .put-bytes .ensures ∙ ap (putAt t 0) (held-text input r is) ∙ put-long (answerFault input t) (answerText input) t e h,
+      c .before .before .put-bytes .ensures ∙ ap (putAt t 0) (text-is input r is) ∙ put-long (answerFault input t) (answerText input) t e h,
     )
 
 pub tureenlark-answer-spec : {M : Type 1} → statement M

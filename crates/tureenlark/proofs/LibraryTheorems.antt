@@ -1,0 +1,95 @@
+-- Theorems on the exported calls: results and refusals are told apart, short records change nothing, a refused report leaves the history.
+-- A reader may read the statements; only the checker need believe the proofs.
+use mathlib.Core.Path.{_≡_, refl, sym, ap, _∙_}
+use mathlib.Core.Logic.{_↔_}
+use mathlib.Core.Bool.{Bool, true, false}
+use mathlib.Core.List.{List, [], _∷_, _++_}
+use Prim.Native.Nat.{ℕ, _+_, _≤_, _<_}
+use native.Mathlib.Omega.{arith}
+use lib.Dec.{eqb}
+use lib.ListN.{length, take, drop, take-append-drop}
+use Rattle.network.proofs.Booleans.{by-test, eqb-is, eqb-no, leb-is, differs}
+use Rattle.plan.specs.declared.Refusal.the-variants as refusal
+use Rattle.plan.specs.Plan.{listed}
+use Rattle.plan.specs.Answer.{first, answered, filled}
+use Rattle.plan.proofs.AnswerLaws.{unless-is, first-none}
+use Rattle.search.specs.Search.{searchFault, searchAnswer}
+use Rattle.search.proofs.SearchTheorems.{count-bounds}
+use Rattle.run.specs.declared.History.{History}
+use Rattle.run.proofs.RunTheorems.{refused-same}
+use Rattle.answer_text.specs.AnswerText.{answerText}
+use Rattle.answer_text.proofs.AnswerTextTheorems.{answer-fits}
+use Rattle.records.specs.Records.{planIn, planLength, historyIn, historyBytes, historyLength}
+use Rattle.records.proofs.RecordsTheorems.{history-bytes-cross}
+use Rattle.tureenlark.specs.Numbers.{faultNumber, numbered}
+use Rattle.tureenlark.specs.Library.{planShort, historyShort, searchNumber, searchLeft, reportShort, reportAt, reportNumber, reportLeft, answerFault, answerTextNumber}
+use Rattle.tureenlark.proofs.LibraryLaws.{short, number-short, left-short}
+
+-- ---- A number below 7F00 is a result, one from there on a refusal and its number, whatever the call.
+
+pub result-exactly : (fault v : ℕ) → v < 32512 → (numbered fault v < 32512) ↔ (fault ≡ 0)
+unfolding numbered
+result-exactly fault v small = (
+  λ h. by-test (eqb fault 0) (eqb-is fault 0) (λ no. let big : faultNumber fault < 32512 = rw no at h in absurd (omega arith)),
+  λ e. rw e small,
+)
+
+pub refusal-said : (fault v : ℕ) → ¬ (fault ≡ 0) → numbered fault v ≡ faultNumber fault
+unfolding numbered
+refusal-said fault v some = rw (eqb-no fault 0 some)
+
+-- so of each call that answers a count or a length
+pub searched-exactly :
+    (plan tree : List ℕ) → (searchNumber plan tree < 32512) ↔ (first (planShort plan) (searchFault (planIn plan) tree) ≡ 0)
+unfolding answered first
+searched-exactly plan tree =
+    let p = planIn plan in
+    let n = searchAnswer p tree .value in
+    let small : n < 32512 =
+    by-test (eqb (searchFault p tree) 0)
+    (λ y. let b = count-bounds p tree (eqb-is (searchFault p tree) 0 y) in omega arith)
+    (λ z. rw z (omega arith)) in
+    result-exactly (first (planShort plan) (searchFault p tree)) n small
+
+pub answered-exactly : (input text : List ℕ) → (answerTextNumber input text < 32512) ↔ (answerFault input text ≡ 0)
+answered-exactly input text =
+    let fits = answer-fits input in result-exactly (answerFault input text) (length (answerText input)) (omega arith)
+
+-- ---- A refused report changes no byte of the history.
+
+-- what was filled, and what stands behind it
+kept : (n : ℕ) (bytes xs : List ℕ) → length bytes ≡ n → bytes ≡ take n xs → filled 0 bytes xs ≡ xs
+unfolding filled
+kept n bytes xs long is = rw long (ap (λ (l : List ℕ). l ++ drop n xs) is ∙ take-append-drop n xs)
+
+short-kept : (fault : ℕ) (bytes xs : List ℕ) → ¬ (fault ≡ 0) → filled fault bytes xs ≡ xs
+unfolding filled
+short-kept fault bytes xs some = rw (eqb-no fault 0 some)
+
+nine : (bs : List ℕ) → length (historyBytes (historyIn bs)) ≡ historyLength
+unfolding listed
+nine bs = refl
+
+pub report-refused-same :
+    (plan tree history : List ℕ) (mask : ℕ) → ¬ (reportNumber plan tree history mask ≡ 1) → reportLeft plan tree history mask ≡ history
+unfolding numbered first
+report-refused-same plan tree history mask not-one =
+    let f = reportShort plan history in
+    let a = reportAt plan tree history mask in
+    by-test (eqb f 0)
+    (λ y.
+    let none = eqb-is f 0 y in
+    let enough = leb-is historyLength (length history) (unless-is _ refusal.Buffer (first-none (planShort plan) (historyShort history) none .1)) in
+    let faulty : ¬ (a .fault ≡ 0) = λ e. not-one (ap (λ (n : ℕ). numbered (first n (a .fault)) 1) none ∙ ap (λ (n : ℕ). numbered n 1) e) in
+    let same = refused-same (planIn plan) tree (historyIn history) mask faulty in
+    ap (λ (n : ℕ). filled n (historyBytes (a .value)) history) none
+    ∙ ap (λ (h : History). filled 0 (historyBytes h) history) same
+    ∙ kept historyLength (historyBytes (historyIn history)) history (nine history) (history-bytes-cross history enough))
+    (λ z. short-kept f (historyBytes (a .value)) history (differs f 0 z))
+
+-- ---- A record that is too short: 10, whatever else was handed in, and no byte changes (the plan's, for example).
+
+pub short-searched : (plan tree : List ℕ) → length plan < planLength → (searchNumber plan tree ≡ faultNumber 10) × (searchLeft plan tree ≡ tree)
+short-searched plan tree few =
+    let e = short planLength plan few in
+    (sym (number-short (planShort plan) _ _ e), sym (left-short (planShort plan) _ tree e))
