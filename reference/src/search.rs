@@ -1,4 +1,4 @@
-//! The search: the whole game, move by move in document 01's order, with a memo and one cut.
+//! The search: the whole game, move by move in document 01's order, with a memo; and the same with one cut.
 
 use crate::plan::*;
 use crate::text::{read_plan, refusal_line, write_tree, TREE_BYTES};
@@ -17,6 +17,8 @@ struct State {
 
 struct Game<'a> {
     plan: &'a Plan,
+    /// Whether states are given up before no point is left.
+    cut: bool,
     memo: HashMap<State, Option<Vec<u8>>>,
 }
 
@@ -68,7 +70,7 @@ impl Game<'_> {
         let mut subtrees = Vec::new();
         for outcome in masks_inside(heard) {
             let state = State { values: after.values | outcome, ..after.clone() };
-            if self.spoiled(&state) {
+            if (self.cut || state.left == 0) && self.spoiled(&state) {
                 return None;
             }
             if state.left != 0 {
@@ -79,14 +81,23 @@ impl Game<'_> {
     }
 }
 
-/// 10, then 2, 3, 4, then 11; else the bytes of the tree.
-pub fn search(plan: &Plan, room: usize) -> Result<Vec<u8>, Refusal> {
+fn played(plan: &Plan, room: usize, cut: bool) -> Result<Vec<u8>, Refusal> {
     if room < TREE_BYTES {
         return Err(BUFFER);
     }
     plan.judge()?;
     let start = State { next: 0, left: plan.all_points(), times: [0; 8], known: 0, values: 0 };
-    Game { plan, memo: HashMap::new() }.agent(start).ok_or(HOPELESS)
+    Game { plan, cut, memo: HashMap::new() }.agent(start).ok_or(HOPELESS)
+}
+
+/// 10, then 2, 3, 4, then 11; else the bytes of the tree.
+pub fn search(plan: &Plan, room: usize) -> Result<Vec<u8>, Refusal> {
+    played(plan, room, true)
+}
+
+/// The same where every game is played to its end, for small plans.
+pub fn exhaustive(plan: &Plan, room: usize) -> Result<Vec<u8>, Refusal> {
+    played(plan, room, false)
 }
 
 /// The program: what it prints for its input.

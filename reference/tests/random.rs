@@ -3,7 +3,7 @@
 use reference::checker::{check, condition_scenarios, dynamic, viable, Path};
 use reference::plan::*;
 use reference::random::{random_plan, random_tree, small_plan, Random};
-use reference::search::search;
+use reference::search::{exhaustive, search};
 use reference::verdict::{least_by_enumeration, least_by_fixpoint, tiny};
 
 #[test]
@@ -67,6 +67,19 @@ fn the_search_decides_definition_9() {
         }
     }
     assert!(won > 100 && hopeless > 100, "{won} {hopeless}");
+}
+
+#[test]
+fn the_cut_changes_nothing() {
+    let mut random = Random(4);
+    let (mut won, mut hopeless) = (0, 0);
+    for _ in 0..1000 {
+        let plan = small_plan(&mut random, 4, 4, 14);
+        let tree = exhaustive(&plan, 573);
+        assert_eq!(tree, search(&plan, 573), "{plan:?}");
+        *if tree.is_ok() { &mut won } else { &mut hopeless } += 1;
+    }
+    assert!(won > 200 && hopeless > 200, "{won} {hopeless}");
 }
 
 #[test]

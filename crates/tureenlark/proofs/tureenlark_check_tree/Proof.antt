@@ -20,7 +20,7 @@ returns : tie.Need-returns
 returns c =
     let b = now (c .before .before .before .before .args .plan) in
     let t = now (c .before .before .before .before .args .tree) in
-    c .refused .ensures ∙ number-short (planShort b) (checkFault (planIn b) t) 1 (short 400 b (omega arith))
+    c .refused .ensures ∙ number-short (planShort b) (checkFault (planIn b) t) 1 (short 400 b (c .before .if1 .taken))
 
 plan-in-requires : tie.Need-plan-in-requires
 plan-in-requires c κs = search needs
@@ -36,7 +36,7 @@ returns-2 c =
     let b = now (c .before .before .before .before .before .before .args .plan) in
     let t = now (c .before .before .before .before .before .before .args .tree) in
     c .judged .ensures ∙ ap (λ (n : ℕ). numbered n 1) (c .before .check-tree .ensures ∙ ap (λ (p : Plan). checkFault p t) (c .before .before .plan-in .ensures))
-    ∙ number-long (planShort b) (checkFault (planIn b) t) 1 (long 400 b (omega arith))
+    ∙ number-long (planShort b) (checkFault (planIn b) t) 1 (long 400 b (c .before .before .before .if1 .left))
 
 pub tureenlark-check-tree-spec : {M : Type 1} → statement M
 tureenlark-check-tree-spec =

@@ -30,7 +30,7 @@ returns c =
     let s = now (c .before .before .before .before .before .before .before .args .steps) in
     let r = followed b t h l in
     let f = followShort b h s in
-    let e = first-short (planShort b) _ (short 400 b (omega arith)) in
+    let e = first-short (planShort b) _ (short 400 b (c .before .if1 .taken)) in
     (c .refused .ensures ∙ number-refused f (length (r .steps)) e, (filled-short f (historyBytes (r .history)) h e, filled-short f (stepsBytes r) s e))
 
 refused-requires-2 : tie.Need-refused-requires-2
@@ -45,7 +45,7 @@ returns-2 c =
     let s = now (c .before .before .before .before .before .before .before .before .args .steps) in
     let r = followed b t h l in
     let f = followShort b h s in
-    let e = then-short (planShort b) _ 10 (long 400 b (omega arith)) (first-short (historyShort h) (shortFault 32 s) (short 9 h (omega arith))) in
+    let e = then-short (planShort b) _ 10 (long 400 b (c .before .before .if1 .left)) (first-short (historyShort h) (shortFault 32 s) (short 9 h (c .before .if2 .taken))) in
     (c .refused2 .ensures ∙ number-refused f (length (r .steps)) e, (filled-short f (historyBytes (r .history)) h e, filled-short f (stepsBytes r) s e))
 
 refused-requires-3 : tie.Need-refused-requires-3
@@ -60,8 +60,8 @@ returns-3 c =
     let s = now (c .before .before .before .before .before .before .before .before .before .args .steps) in
     let r = followed b t h l in
     let f = followShort b h s in
-    let e = then-short (planShort b) _ 10 (long 400 b (omega arith))
-    (then-short (historyShort h) (shortFault 32 s) 10 (long 9 h (omega arith)) (short 32 s (omega arith))) in
+    let e = then-short (planShort b) _ 10 (long 400 b (c .before .before .before .if1 .left))
+    (then-short (historyShort h) (shortFault 32 s) 10 (long 9 h (c .before .before .if2 .left)) (short 32 s (c .before .if3 .taken))) in
     (c .refused3 .ensures ∙ number-refused f (length (r .steps)) e, (filled-short f (historyBytes (r .history)) h e, filled-short f (stepsBytes r) s e))
 
 history-in-requires : tie.Need-history-in-requires
@@ -101,8 +101,8 @@ returns-4 c =
     let s = now (c .before .before .before .before .before .before .before .before .before .before .before .before .before .before .before .before .before .before .before .before .before .args .steps) in
     let r = followed b t h l in
     let f = followShort b h s in
-    let e = then-short (planShort b) _ 0 (long 400 b (omega arith))
-    (then-short (historyShort h) (shortFault 32 s) 0 (long 9 h (omega arith)) (long 32 s (omega arith))) in
+    let e = then-short (planShort b) _ 0 (long 400 b (c .before .before .before .before .before .before .before .before .before .before .before .before .before .before .before .if1 .left))
+    (then-short (historyShort h) (shortFault 32 s) 0 (long 9 h (c .before .before .before .before .before .before .before .before .before .before .before .before .before .before .if2 .left)) (long 32 s (c .before .before .before .before .before .before .before .before .before .before .before .before .before .if3 .left))) in
     let v = c .before .before .before .before .before .before .before .before .before .follow .result in
     let is : v ≡ followedRecord r = c .before .before .before .before .before .before .before .before .before .follow .ensures ∙ rw (c .before .before .before .before .before .before .before .before .before .before .plan-in .ensures, c .before .before .before .before .before .before .before .before .before .before .before .history-in .ensures) in
     let history = record-history v r is in

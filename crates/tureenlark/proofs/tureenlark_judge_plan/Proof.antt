@@ -19,7 +19,7 @@ refused-requires c κs = search needs
 returns : tie.Need-returns
 returns c =
     let b = now (c .before .before .before .args .plan) in
-    c .refused .ensures ∙ number-short (planShort b) (planFault (planIn b)) 1 (short 400 b (omega arith))
+    c .refused .ensures ∙ number-short (planShort b) (planFault (planIn b)) 1 (short 400 b (c .before .if1 .taken))
 
 plan-in-requires : tie.Need-plan-in-requires
 plan-in-requires c κs = search needs
@@ -34,7 +34,7 @@ returns-2 : tie.Need-returns-2
 returns-2 c =
     let b = now (c .before .before .before .before .before .args .plan) in
     c .judged .ensures ∙ ap (λ (n : ℕ). numbered n 1) (c .before .judge .ensures ∙ ap planFault (c .before .before .plan-in .ensures))
-    ∙ number-long (planShort b) (planFault (planIn b)) 1 (long 400 b (omega arith))
+    ∙ number-long (planShort b) (planFault (planIn b)) 1 (long 400 b (c .before .before .before .if1 .left))
 
 pub tureenlark-judge-plan-spec : {M : Type 1} → statement M
 tureenlark-judge-plan-spec =

@@ -25,7 +25,7 @@ returns c =
     let b = now (c .before .before .before .before .args .plan) in
     let s = now (c .before .before .before .before .args .schedule) in
     let a = leastSchedule (planIn b) (c .before .before .before .before .args .values) in
-    let e = first-short (planShort b) (shortFault 8 s) (short 400 b (omega arith)) in (
+    let e = first-short (planShort b) (shortFault 8 s) (short 400 b (c .before .if1 .taken)) in (
       c .refused .ensures ∙ number-short (scheduleShort b s) (a .fault) (digit (a .value .scheduled)) e,
       filled-short (scheduleShort b s) (a .value .slots) s e,
     )
@@ -38,7 +38,7 @@ returns-2 c =
     let b = now (c .before .before .before .before .before .args .plan) in
     let s = now (c .before .before .before .before .before .args .schedule) in
     let a = leastSchedule (planIn b) (c .before .before .before .before .before .args .values) in
-    let e = then-short (planShort b) (shortFault 8 s) 10 (long 400 b (omega arith)) (short 8 s (omega arith)) in (
+    let e = then-short (planShort b) (shortFault 8 s) 10 (long 400 b (c .before .before .if1 .left)) (short 8 s (c .before .if2 .taken)) in (
       c .refused2 .ensures ∙ number-short (scheduleShort b s) (a .fault) (digit (a .value .scheduled)) e,
       filled-short (scheduleShort b s) (a .value .slots) s e,
     )
@@ -66,7 +66,7 @@ returns-3 c =
     let b = now (c .before .before .before .before .before .before .before .before .before .before .before .before .before .args .plan) in
     let s = now (c .before .before .before .before .before .before .before .before .before .before .before .before .before .args .schedule) in
     let a = leastSchedule (planIn b) (c .before .before .before .before .before .before .before .before .before .before .before .before .before .args .values) in
-    let e = then-short (planShort b) (shortFault 8 s) 0 (long 400 b (omega arith)) (long 8 s (omega arith)) in
+    let e = then-short (planShort b) (shortFault 8 s) 0 (long 400 b (c .before .before .before .before .before .before .before .before .before .before .if1 .left)) (long 8 s (c .before .before .before .before .before .before .before .before .before .if2 .left)) in
     let v = c .before .before .before .before .before .before .before .least-schedule .result in
     let said : verdictAnswer v ≡ a =
     c .before .before .before .before .before .before .before .least-schedule .ensures ∙ ap (λ (p : Plan). leastSchedule p (c .before .before .before .before .before .before .before .before .before .before .before .before .before .args .values)) (c .before .before .before .before .before .before .before .before .plan-in .ensures) in

@@ -25,7 +25,7 @@ returns : tie.Need-returns
 returns c =
     let b = now (c .before .before .before .before .args .plan) in
     let a = readPlan (now (c .before .before .before .before .args .text)) in
-    let e = short 400 b (omega arith) in
+    let e = short 400 b (c .before .if1 .taken) in
     (c .refused .ensures ∙ number-short (planShort b) (a .fault) 1 e, filled-short (planShort b) (planBytes (a .value)) b e)
 
 read-plan-requires : tie.Need-read-plan-requires
@@ -44,7 +44,7 @@ returns-2 : tie.Need-returns-2
 returns-2 c =
     let b = now (c .before .before .before .before .before .before .before .before .before .args .plan) in
     let a = readPlan (now (c .before .before .before .before .before .before .before .before .before .args .text)) in
-    let e = long 400 b (omega arith) in
+    let e = long 400 b (c .before .before .before .before .before .before .if1 .left) in
     let said = c .before .before .before .before .before .read-plan .ensures in
     let room : length (planBytes (a .value)) ≤ length b = rw (plan-bytes (a .value)) (omega arith) in (
       c .judged .ensures ∙ ap (λ (x : Answer Plan). numbered (x .fault) 1) said ∙ number-long (planShort b) (a .fault) 1 e,

@@ -28,7 +28,7 @@ returns c =
     let h = now (c .before .before .before .before .before .args .history) in
     let m = c .before .before .before .before .before .args .mask in
     let a = reportAt b t h m in
-    let e = first-short (planShort b) (historyShort h) (short 400 b (omega arith)) in
+    let e = first-short (planShort b) (historyShort h) (short 400 b (c .before .if1 .taken)) in
     (c .refused .ensures ∙ number-short (reportShort b h) (a .fault) 1 e, filled-short (reportShort b h) (historyBytes (a .value)) h e)
 
 refused-requires-2 : tie.Need-refused-requires-2
@@ -41,7 +41,7 @@ returns-2 c =
     let h = now (c .before .before .before .before .before .before .args .history) in
     let m = c .before .before .before .before .before .before .args .mask in
     let a = reportAt b t h m in
-    let e = then-short (planShort b) (historyShort h) 10 (long 400 b (omega arith)) (short 9 h (omega arith)) in
+    let e = then-short (planShort b) (historyShort h) 10 (long 400 b (c .before .before .if1 .left)) (short 9 h (c .before .if2 .taken)) in
     (c .refused2 .ensures ∙ number-short (reportShort b h) (a .fault) 1 e, filled-short (reportShort b h) (historyBytes (a .value)) h e)
 
 history-in-requires : tie.Need-history-in-requires
@@ -69,7 +69,7 @@ returns-3 c =
     let h = now (c .before .before .before .before .before .before .before .before .before .before .before .before .before .before .args .history) in
     let m = c .before .before .before .before .before .before .before .before .before .before .before .before .before .before .args .mask in
     let a = reportAt b t h m in
-    let e = then-short (planShort b) (historyShort h) 0 (long 400 b (omega arith)) (long 9 h (omega arith)) in
+    let e = then-short (planShort b) (historyShort h) 0 (long 400 b (c .before .before .before .before .before .before .before .before .before .before .if1 .left)) (long 9 h (c .before .before .before .before .before .before .before .before .before .if2 .left)) in
     let said : reportedAnswer (c .before .before .before .before .before .report .result) ≡ a =
     c .before .before .before .before .before .report .ensures ∙ rw (c .before .before .before .before .before .before .plan-in .ensures, c .before .before .before .before .before .before .before .history-in .ensures) in
     let eight : length (c .before .before .before .before .before .report .result .history .masks) ≡ 8 = search needs in

@@ -20,7 +20,7 @@ returns : tie.Need-returns
 returns c =
     let b = now (c .before .before .before .args .plan) in
     let a = screened (planIn b) in
-    c .refused .ensures ∙ number-short (planShort b) (a .fault) (digit (a .value)) (short 400 b (omega arith))
+    c .refused .ensures ∙ number-short (planShort b) (a .fault) (digit (a .value)) (short 400 b (c .before .if1 .taken))
 
 plan-in-requires : tie.Need-plan-in-requires
 plan-in-requires c κs = search needs
@@ -36,7 +36,7 @@ returns-2 c =
     let b = now (c .before .before .before .before .before .args .plan) in
     let a = screened (planIn b) in
     c .screened .ensures ∙ ap testNumber (c .before .screen-plan .ensures ∙ ap screened (c .before .before .plan-in .ensures))
-    ∙ number-long (planShort b) (a .fault) (digit (a .value)) (long 400 b (omega arith))
+    ∙ number-long (planShort b) (a .fault) (digit (a .value)) (long 400 b (c .before .before .before .if1 .left))
 
 pub tureenlark-screen-spec : {M : Type 1} → statement M
 tureenlark-screen-spec =

@@ -24,7 +24,7 @@ returns c =
     let i = now (c .before .before .before .before .before .before .args .instruction) in
     let told = toldAt b t h in
     let f = showShort b h i in
-    let e = first-short (planShort b) _ (short 400 b (omega arith)) in
+    let e = first-short (planShort b) _ (short 400 b (c .before .if1 .taken)) in
     (c .refused .ensures ∙ told-short f (toldNumber told) e, filled-short f (toldBytes told) i e)
 
 refused-requires-2 : tie.Need-refused-requires-2
@@ -38,7 +38,7 @@ returns-2 c =
     let i = now (c .before .before .before .before .before .before .before .args .instruction) in
     let told = toldAt b t h in
     let f = showShort b h i in
-    let e = then-short (planShort b) _ 10 (long 400 b (omega arith)) (first-short (historyShort h) (shortFault 3 i) (short 9 h (omega arith))) in
+    let e = then-short (planShort b) _ 10 (long 400 b (c .before .before .if1 .left)) (first-short (historyShort h) (shortFault 3 i) (short 9 h (c .before .if2 .taken))) in
     (c .refused2 .ensures ∙ told-short f (toldNumber told) e, filled-short f (toldBytes told) i e)
 
 refused-requires-3 : tie.Need-refused-requires-3
@@ -52,8 +52,8 @@ returns-3 c =
     let i = now (c .before .before .before .before .before .before .before .before .args .instruction) in
     let told = toldAt b t h in
     let f = showShort b h i in
-    let e = then-short (planShort b) _ 10 (long 400 b (omega arith))
-    (then-short (historyShort h) (shortFault 3 i) 10 (long 9 h (omega arith)) (short 3 i (omega arith))) in
+    let e = then-short (planShort b) _ 10 (long 400 b (c .before .before .before .if1 .left))
+    (then-short (historyShort h) (shortFault 3 i) 10 (long 9 h (c .before .before .if2 .left)) (short 3 i (c .before .if3 .taken))) in
     (c .refused3 .ensures ∙ told-short f (toldNumber told) e, filled-short f (toldBytes told) i e)
 
 plan-in-requires : tie.Need-plan-in-requires
@@ -82,8 +82,8 @@ returns-4 c =
     let i = now (c .before .before .before .before .before .before .before .before .before .before .before .before .before .before .before .args .instruction) in
     let told = toldAt b t h in
     let f = showShort b h i in
-    let e = then-short (planShort b) _ 0 (long 400 b (omega arith))
-    (then-short (historyShort h) (shortFault 3 i) 0 (long 9 h (omega arith)) (long 3 i (omega arith))) in
+    let e = then-short (planShort b) _ 0 (long 400 b (c .before .before .before .before .before .before .before .before .before .before .if1 .left))
+    (then-short (historyShort h) (shortFault 3 i) 0 (long 9 h (c .before .before .before .before .before .before .before .before .before .if2 .left)) (long 3 i (c .before .before .before .before .before .before .before .before .if3 .left))) in
     let said : shownTold (c .before .before .before .before .before .show .result) ≡ told =
     c .before .before .before .before .before .show .ensures ∙ rw (c .before .before .before .before .before .before .before .plan-in .ensures, c .before .before .before .before .before .before .history-in .ensures) in
     let few = few-bytes told in (

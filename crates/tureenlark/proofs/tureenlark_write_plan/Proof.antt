@@ -19,7 +19,7 @@ returns : tie.Need-returns
 returns c =
     let b = now (c .before .before .before .before .args .plan) in
     let t = now (c .before .before .before .before .args .text) in
-    let e = short 400 b (omega arith) in (
+    let e = short 400 b (c .before .if1 .taken) in (
       c .refused .ensures ∙ number-short (planShort b) (writePlan (planIn b) t .fault) (writePlan (planIn b) t .value) e,
       left-short (planShort b) (writePlanLeaves (planIn b) t) t e,
     )
@@ -40,7 +40,7 @@ returns-2 : tie.Need-returns-2
 returns-2 c =
     let b = now (c .before .before .before .before .before .before .before .before .before .args .plan) in
     let t = now (c .before .before .before .before .before .before .before .before .before .args .text) in
-    let e = long 400 b (omega arith) in
+    let e = long 400 b (c .before .before .before .before .before .before .if1 .left) in
     let is = c .before .before .before .before .before .plan-in .ensures in
     let said = c .before .before .before .write-plan .ensures in (
       c .written .ensures ∙ ap answerNumber (said .0 ∙ ap (λ (p : Plan). writePlan p t) is)

@@ -1,0 +1,37 @@
+//! The two turns of the game: the agent tries moves, the world tries outcomes. They call each other until no point is
+//! left, and write the tree of first moves on the way.
+
+use super::constraints::all_kept;
+use super::game::Position;
+use super::masks::outcomes;
+use super::moves::legal_moves;
+use super::plan::Plan;
+use super::pruning::move_lost;
+use super::tree::{Node, NODE_BYTES};
+
+/// The agent's turn: the first move from which the game can be won is written, its subtrees directly behind. The
+/// number of nodes written, or none where the game cannot be won.
+pub fn agent(plan: &Plan, at: &Position, buf: &mut [u8]) -> Option<usize> {
+    if at.left == 0 {
+        return all_kept(plan, &at.slots, at.values).then_some(0);
+    }
+    for v in legal_moves(plan, at) {
+        if let Some(below) = world(plan, at, v, &mut buf[NODE_BYTES..]) {
+            buf[..NODE_BYTES].copy_from_slice(&v.to_bytes());
+            return Some(below + 1);
+        }
+    }
+    None
+}
+
+/// The world's turn after a legal move: each outcome in turn, its subtree directly behind the one before.
+fn world(plan: &Plan, at: &Position, v: Node, buf: &mut [u8]) -> Option<usize> {
+    if move_lost(plan, at, v) {
+        return None;
+    }
+    let mut nodes = 0;
+    for outcome in outcomes(plan.heard(v.points)) {
+        nodes += agent(plan, &at.after(v, outcome), &mut buf[NODE_BYTES * nodes..])?;
+    }
+    Some(nodes)
+}

@@ -1,0 +1,39 @@
+//! Cases that stand alone. A comparison that fails prints one; it is pasted here and stays.
+
+use comparison::{compare, compare_between, hex, Case};
+use reference::known::k;
+
+/// K1 to K10 are searched into a buffer of 573 bytes, and into one that is longer.
+#[test]
+fn k1_to_k10() {
+    for (number, length) in (1..=10).flat_map(|number| [(number, 573), (number, 600)]) {
+        compare(&Case::Search { plan: k(number).to_bytes(), tree: vec![0xEE; length] });
+    }
+}
+
+/// K4's text is answered into just as many bytes as it needs, and into one less: 10.
+#[test]
+fn k4_answered() {
+    let input =
+        hex("303130323032303130320A30323030303030300A30333030303130303031303130310A303330313030464646453031303\
+        00A");
+    for length in [32, 31] {
+        compare(&Case::Answer { input: input.clone(), text: vec![0xEE; length] });
+    }
+}
+
+/// A tree of 572 bytes cannot be lent: 10, before the text is looked at.
+#[test]
+fn a_byte_short() {
+    compare(&Case::ReadTree { text: hex(""), tree: vec![0xEE; 572] });
+}
+
+/// A history cut to eight bytes, with what was cut off behind it: 10.
+#[test]
+fn a_history_cut() {
+    compare_between(
+        &Case::Report { plan: k(1).to_bytes(), tree: hex("000100"), history: hex("0000000000000000"), mask: 0 },
+        &hex("A5A5A5A5"),
+        &hex("00A5A5A5"),
+    );
+}
