@@ -3,7 +3,7 @@ use mathlib.Core.Path.{_≡_, refl, sym, ap, _∙_}
 use mathlib.Core.List.{List, [], _∷_, _++_}
 use Prim.Native.Nat.{ℕ, zero, suc, _+_, _*_, _≤_, _<_}
 use native.Mathlib.Omega.{arith}
-use lib.ListN.{length, getD, take, drop}
+use lib.ListN.{length, getD, take, drop, List·getD-append}
 use lib.Seq.{ext-getD, take-add, drop-drop}
 use Rattle.network.proofs.JoinLaws.{join-cong}
 use Rattle.plan.specs.declared.Letter.{Letter}
@@ -23,6 +23,14 @@ unfolding listed
 front bs zero h = refl
 front [] (suc n) h = absurd (omega arith)
 front (b ∷ bs) (suc n) h = ap (λ (l : List ℕ). b ∷ l) (front bs n (omega arith))
+
+-- entries that are the same one by one
+listed-same : {A : Type 0} (n : ℕ) (f g : ℕ → A) → ((i : ℕ) → i < n → f i ≡ g i) → listed n f ≡ listed n g
+unfolding listed
+listed-same zero f g h = refl
+listed-same {A} (suc n) f g h =
+    ap (λ (a : A). a ∷ listed n (λ i. f (suc i))) (h zero (omega arith))
+    ∙ ap (λ (l : List A). g zero ∷ l) (listed-same n (λ i. f (suc i)) (λ i. g (suc i)) (λ i lt. h (suc i) (omega arith)))
 
 -- a plan's record is 400 bytes
 pub plan-bytes : (p : Plan) → length (planBytes p) ≡ planLength
@@ -56,6 +64,30 @@ bytes-cross bs bytes room =
     ap (λ (l : List ℕ). headBytes (planIn bs) ++ l) (rw (letters, constraints) (sym (ap (λ (l : List ℕ). take 12 (drop 4 bs) ++ take 384 l) (drop-drop 12 4 bs)) ∙ sym (take-add 12 384 (drop 4 bs))))
     ∙ ap (λ (l : List ℕ). l ++ take 396 (drop 4 bs)) head
     ∙ sym (take-add 4 396 bs)
+
+-- Bytes behind a record do not count.
+pub behind-ignored : (bs r : List ℕ) → length bs ≡ planLength → planIn (bs ++ r) ≡ planIn bs
+unfolding planIn
+behind-ignored bs r long =
+    let same : (k : ℕ) → k < 400 → getD (bs ++ r) k 0 ≡ getD bs k 0 = λ k lt. List·getD-append bs r 0 k (omega arith) in
+    let letters = listed-same 6 (λ i. letterFrom (bs ++ r) (4 + 2 * i)) (λ i. letterFrom bs (4 + 2 * i))
+    (λ i lt n. record { point = same (4 + 2 * i) (omega arith) n; kind = same (4 + 2 * i + 1) (omega arith) n }) in
+    let constraints = listed-same 64 (λ j. constraintFrom (bs ++ r) (16 + 6 * j)) (λ j. constraintFrom bs (16 + 6 * j))
+    (λ j lt n. record {
+      from = same (16 + 6 * j) (omega arith) n;
+      to = same (16 + 6 * j + 1) (omega arith) n;
+      bound = 256 * same (16 + 6 * j + 2) (omega arith) n + same (16 + 6 * j + 3) (omega arith) n;
+      need = same (16 + 6 * j + 4) (omega arith) n;
+      truth = same (16 + 6 * j + 5) (omega arith) n;
+    }) in
+    λ n. record {
+      horizon = same 0 (omega arith) n;
+      points = same 1 (omega arith) n;
+      letters = same 2 (omega arith) n;
+      constraints = same 3 (omega arith) n;
+      letter = letters n;
+      constraint = constraints n;
+    }
 
 -- The same of histories.
 pub history-crosses : (h : History) → length (h .masks) ≡ 8 → historyIn (historyBytes h) ≡ h

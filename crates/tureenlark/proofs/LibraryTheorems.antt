@@ -1,4 +1,5 @@
--- Theorems on the exported calls: results and refusals are told apart, short records change nothing, a refused report leaves the history.
+-- Theorems on the exported calls: results and refusals are told apart, a plan that was read crosses, a refused report leaves the history,
+-- short records change nothing.
 -- A reader may read the statements; only the checker need believe the proofs.
 use mathlib.Core.Path.{_≡_, refl, sym, ap, _∙_}
 use mathlib.Core.Logic.{_↔_}
@@ -10,20 +11,23 @@ use lib.Dec.{eqb}
 use lib.ListN.{length, take, drop, take-append-drop}
 use Rattle.network.proofs.Booleans.{by-test, eqb-is, eqb-no, leb-is, differs}
 use Rattle.plan.specs.declared.Refusal.the-variants as refusal
+use Rattle.plan.specs.declared.Plan.{Plan}
 use Rattle.plan.specs.Plan.{listed}
 use Rattle.plan.specs.Answer.{first, answered, filled}
 use Rattle.plan.proofs.AnswerLaws.{unless-is, first-none}
+use Rattle.plan_text.specs.ReadPlan.{readPlan}
+use Rattle.plan_text.proofs.PlanTextTheorems.{read-exactly, refused-zero}
 use Rattle.search.specs.Search.{searchFault, searchAnswer}
 use Rattle.search.proofs.SearchTheorems.{count-bounds}
 use Rattle.run.specs.declared.History.{History}
 use Rattle.run.proofs.RunTheorems.{refused-same}
 use Rattle.answer_text.specs.AnswerText.{answerText}
 use Rattle.answer_text.proofs.AnswerTextTheorems.{answer-fits}
-use Rattle.records.specs.Records.{planIn, planLength, historyIn, historyBytes, historyLength}
-use Rattle.records.proofs.RecordsTheorems.{history-bytes-cross}
+use Rattle.records.specs.Records.{planIn, planBytes, planLength, historyIn, historyBytes, historyLength}
+use Rattle.records.proofs.RecordsTheorems.{plan-bytes, plan-crosses, behind-ignored, history-bytes-cross}
 use Rattle.tureenlark.specs.Numbers.{faultNumber, numbered}
-use Rattle.tureenlark.specs.Library.{planShort, historyShort, searchNumber, searchLeft, reportShort, reportAt, reportNumber, reportLeft, answerFault, answerTextNumber}
-use Rattle.tureenlark.proofs.LibraryLaws.{short, number-short, left-short}
+use Rattle.tureenlark.specs.Library.{planShort, historyShort, readPlanLeft, searchNumber, searchLeft, reportShort, reportAt, reportNumber, reportLeft, answerFault, answerTextNumber}
+use Rattle.tureenlark.proofs.LibraryLaws.{short, long, number-short, left-short}
 
 -- ---- A number below 7F00 is a result, one from there on a refusal and its number, whatever the call.
 
@@ -54,6 +58,31 @@ searched-exactly plan tree =
 pub answered-exactly : (input text : List ℕ) → (answerTextNumber input text < 32512) ↔ (answerFault input text ≡ 0)
 answered-exactly input text =
     let fits = answer-fits input in result-exactly (answerFault input text) (length (answerText input)) (omega arith)
+
+-- ---- A plan that was read crosses: from the record that reading left, whatever stood there before, the other calls take the very plan that
+-- the text says. (Beside a refusal that is the plan of zeros.)
+
+arrays : (text : List ℕ) → (length (readPlan text .value .letter) ≡ 6) × (length (readPlan text .value .constraint) ≡ 64)
+arrays text =
+    let a = readPlan text in
+    by-test (eqb (a .fault) 0)
+    (λ y.
+    let none = eqb-is (a .fault) 0 y in
+    let h = read-exactly text (a .value) .0 (λ i. record { fault = none i; value = a .value }) in
+    (h .2, h .3))
+    (λ z.
+    let zeros = refused-zero text (differs (a .fault) 0 z) .1 in
+    (ap (λ (p : Plan). length (p .letter)) zeros, ap (λ (p : Plan). length (p .constraint)) zeros))
+
+pub read-crosses : (text plan : List ℕ) → planLength ≤ length plan → planIn (readPlanLeft text plan) ≡ readPlan text .value
+unfolding filled
+read-crosses text plan enough =
+    let v = readPlan text .value in
+    let bytes = planBytes v in
+    let six = arrays text in
+    ap (λ (n : ℕ). planIn (filled n bytes plan)) (long planLength plan enough)
+    ∙ behind-ignored bytes (drop (length bytes) plan) (plan-bytes v)
+    ∙ plan-crosses v (six .0) (six .1)
 
 -- ---- A refused report changes no byte of the history.
 
