@@ -47,58 +47,59 @@ enum tureenlark_refusal {
     TUREENLARK_HOPELESS = 11    /* the author of a plan: no crew can be sure to keep it */
 };
 
-/* 1 where the record is a well-formed plan; or 2, 3, 4. */
+/* 1 where the record is a well-formed plan; or refused with 2, 3, 4. */
 size_t tureenlark_judge_plan(const uint8_t *plan, size_t plan_length);
 
 /* 1, and the first 400 bytes of `plan` are the record that the text says; or refused with 1, 2, 3, 4, and they are zero. */
 size_t tureenlark_read_plan(const uint8_t *text, size_t text_length, uint8_t *plan, size_t plan_length);
 
-/* The length of the plan's text, which is put at the front of `text`; or 2, 3, 4, 10 (fewer bytes than the text has), and no byte changes. */
+/* The length of the plan's text, which is put at the front of `text`; or refused with 2, 3, 4, 10 (fewer bytes than the text has), and no
+ * byte changes. */
 size_t tureenlark_write_plan(const uint8_t *plan, size_t plan_length, uint8_t *text, size_t text_length);
 
-/* The number of nodes of the tree that the text says, three bytes each, put at the front of `tree`; or 10 (fewer than 573 bytes), 5, and no
- * byte changes. */
+/* The number of nodes of the tree that the text says, three bytes each, put at the front of `tree`; or refused with 10 (fewer than 573
+ * bytes), 5, and no byte changes. */
 size_t tureenlark_read_tree(const uint8_t *text, size_t text_length, uint8_t *tree, size_t tree_length);
 
-/* The length of the tree's text, which is put at the front of `text`; or 6 (a length that no tree has), 10 (fewer bytes than the text has),
- * and no byte changes. No shape is judged. */
+/* The length of the tree's text, which is put at the front of `text`; or refused with 6 (a length that no tree has), 10 (fewer bytes than
+ * the text has), and no byte changes. No shape is judged. */
 size_t tureenlark_write_tree(const uint8_t *tree, size_t tree_length, uint8_t *text, size_t text_length);
 
-/* 1 where the bytes are a tree whose every path keeps the plan; or 2, 3, 4, 6, 7. */
+/* 1 where the bytes are a tree whose every path keeps the plan; or refused with 2, 3, 4, 6, 7. */
 size_t tureenlark_check_tree(const uint8_t *plan, size_t plan_length, const uint8_t *tree, size_t tree_length);
 
-/* The number of nodes of the tree of first moves, which is put into `tree`, zeros behind it up to byte 573; or 10 (fewer than 573 bytes), 2,
- * 3, 4, and no byte changes; or 11, and the first 573 bytes are zero. */
+/* The number of nodes of the tree of first moves, which is put into `tree`, zeros behind it up to byte 573; or refused with 10 (fewer than
+ * 573 bytes), 2, 3, 4, and no byte changes; or refused with 11, and the first 573 bytes are zero. */
 size_t tureenlark_search(const uint8_t *plan, size_t plan_length, uint8_t *tree, size_t tree_length);
 
-/* 1, and the first three bytes of `instruction` are the slot, the points and the choices that the crew is told at the history; 0 where it is
- * done; or 2, 3, 4, 6, 7, 8, 9. With 0 and with a refusal no byte changes. */
+/* 1, and the first three bytes of `instruction` are the slot, the points and the choices that the crew is told at the history; 0 where it
+ * is done; or refused with 2, 3, 4, 6, 7, 8, 9. With 0 and with a refusal no byte changes. */
 size_t tureenlark_show(const uint8_t *plan, size_t plan_length, const uint8_t *tree, size_t tree_length,
                        const uint8_t *history, size_t history_length, uint8_t *instruction, size_t instruction_length);
 
-/* 1, and `history` is one report longer; or 2, 3, 4, 6, 7, 8, 9, and no byte changes. A new history is nine zeros. */
+/* 1, and `history` is one report longer; or refused with 2, 3, 4, 6, 7, 8, 9, and no byte changes. A new history is nine zeros. */
 size_t tureenlark_report(const uint8_t *plan, size_t plan_length, const uint8_t *tree, size_t tree_length,
                          uint8_t *history, size_t history_length, uint8_t mask);
 
-/* The calls of a list, two bytes each, one after the other from this history on: 0 and any byte shows, any other byte and a mask reports that
- * mask; an odd last byte is no call. The number of accepted reports; `history` holds the history that is left, and the first 32 bytes of
- * `steps`, four for each accepted report, hold the slot, points and choices told and the mask, zeros behind them. A call of the list that is
- * refused, for the plan, the tree, the history or the mask, changes nothing and the list goes on; nothing but a short record is refused as
- * a whole. */
+/* The calls of a list, two bytes each, one after the other from this history on: 0 and any byte shows, any other byte and a mask reports
+ * that mask; an odd last byte is no call. The number of accepted reports; `history` holds the history that is left, and the first 32 bytes
+ * of `steps`, four for each accepted report, hold the slot, points and choices told and the mask, zeros behind them. A call of the list
+ * that is refused, for the plan, the tree, the history or the mask, changes nothing and the list goes on; nothing but a short record is
+ * refused as a whole. */
 size_t tureenlark_follow(const uint8_t *plan, size_t plan_length, const uint8_t *tree, size_t tree_length,
                          uint8_t *history, size_t history_length, const uint8_t *calls, size_t calls_length,
                          uint8_t *steps, size_t steps_length);
 
-/* 1, and the first eight bytes of `schedule` are the least slots where the letters of `values` are true and the others false; 0 where there
- * is no schedule; or 2, 3, 4, 8. With 0 and with these refusals the eight bytes are zero. */
+/* 1, and the first eight bytes of `schedule` are the least slots where the letters of `values` are true and the others false; 0 where
+ * there is no schedule; or refused with 2, 3, 4, 8. With 0 and with these refusals the eight bytes are zero. */
 size_t tureenlark_least_schedule(const uint8_t *plan, size_t plan_length, uint8_t values, uint8_t *schedule,
                                  size_t schedule_length);
 
-/* 1 where every setting of all letters has a schedule, 0 where one has none; or 2, 3, 4. */
+/* 1 where every setting of all letters has a schedule, 0 where one has none; or refused with 2, 3, 4. */
 size_t tureenlark_screen(const uint8_t *plan, size_t plan_length);
 
-/* The length of what the program prints for this input, a tree text or one 7F frame, which is put at the front of `text`; or 10, and no byte
- * changes. */
+/* The length of what the program prints for this input, a tree text or one 7F frame, which is put at the front of `text`; or refused with
+ * 10, and no byte changes. */
 size_t tureenlark_answer(const uint8_t *input, size_t input_length, uint8_t *text, size_t text_length);
 
 #ifdef __cplusplus

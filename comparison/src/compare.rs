@@ -14,12 +14,12 @@ pub fn compare(case: &Case) {
 
 /// The same with these guards before and behind each buffer. What is answered and left must not depend on them.
 pub fn compare_between(case: &Case, before: &[u8], behind: &[u8]) {
+    let _pasted = Pasted { case, before, behind };
     check(case, before, behind, &expected(case));
 }
 
 /// The same where the expectation is known.
 pub fn check(case: &Case, before: &[u8], behind: &[u8], expected: &Expected) {
-    let _pasted = Pasted { case, before, behind };
     if std::env::var_os("COMPARISON_SAY").is_some() {
         eprintln!("{}", pasted(case, before, behind));
     }
@@ -39,11 +39,11 @@ pub fn check(case: &Case, before: &[u8], behind: &[u8], expected: &Expected) {
     assert!(wrong.is_empty(), "{}", wrong.join("\n"));
 }
 
-/// Prints the case when the call or a comparison panics.
-struct Pasted<'a> {
-    case: &'a Case,
-    before: &'a [u8],
-    behind: &'a [u8],
+/// Prints the case when what it stands around panics: the reference, the call or the comparison.
+pub struct Pasted<'a> {
+    pub case: &'a Case,
+    pub before: &'a [u8],
+    pub behind: &'a [u8],
 }
 
 impl Drop for Pasted<'_> {

@@ -4,7 +4,7 @@ use crate::library::{Answer, Case, Library};
 use reference::checker::check;
 use reference::plan::*;
 use reference::run::{report, show, History, Told};
-use reference::search::{program, search};
+use reference::search::{exhaustive, program, search};
 use reference::text::{read_plan, read_tree, write_plan, write_tree, TREE_BYTES};
 use reference::verdict::{screen, verdict};
 
@@ -26,6 +26,11 @@ pub fn expected(case: &Case) -> Expected {
     let mut lent: Vec<&mut [u8]> = after.iter_mut().map(|bytes| &mut bytes[..]).collect();
     let answer = case.perform(&Rules, &mut lent);
     Expected { answer, after }
+}
+
+/// Few enough games to play each to its end.
+pub fn small(plan: &Plan) -> bool {
+    (plan.horizon as u64 + 1).saturating_pow(plan.points as u32) <= 256
 }
 
 /// A buffer shorter than its record: 10, before anything else is looked at.
@@ -101,7 +106,8 @@ impl Library for Rules {
 
     /// On success the tree and zeros up to byte 573, on 11 zeros up to there, on other refusals nothing.
     fn search(&self, plan: &[u8], tree: &mut [u8]) -> Answer {
-        let found = search(&plan_record(plan)?, tree.len());
+        let plan = plan_record(plan)?;
+        let found = if small(&plan) { exhaustive(&plan, tree.len()) } else { search(&plan, tree.len()) };
         if matches!(found, Ok(_) | Err(HOPELESS)) {
             put(tree, &[0; TREE_BYTES]);
         }

@@ -36,10 +36,11 @@ pub fn cut(bytes: &[u8], length: usize) -> Made {
 /// One past what two bytes can count.
 pub const HUGE: usize = 65_536;
 
-/// A length for a buffer that needs `needed`: mostly enough, often just so, one in twelve too short; seldom huge.
+/// A length for a buffer that needs `needed`: mostly enough, often just so, one in ten too short or none; seldom huge.
 pub fn length_about(random: &mut Random, needed: usize) -> usize {
     match random.below(24) {
         _ if random.one_in(150) => HUGE + random.below(needed + 1),
+        _ if random.one_in(80) => 0,
         0 => needed - 1,
         1 => random.below(needed),
         2..=10 => needed,
@@ -62,6 +63,7 @@ pub fn buffer(random: &mut Random, needed: usize) -> Vec<u8> {
 /// A record as it is, or with bytes behind it, or cut short.
 pub fn record(random: &mut Random, bytes: &[u8]) -> Made {
     match random.below(32) {
+        _ if random.one_in(150) => cut(bytes, 0),
         0 => cut(bytes, bytes.len() - 1),
         1 => cut(bytes, random.below(bytes.len())),
         2 => [bytes, &any_bytes(random, 1)].concat().into(),

@@ -2,13 +2,15 @@
 
 use crate::expected::*;
 use crate::library::{Answer, Case};
-use reference::plan::{Plan, AFTER_DONE, MASK};
+use reference::plan::{Plan, AFTER_DONE, HOPELESS, MASK, SHAPE};
 use reference::search::program;
 use reference::text::{read_plan, write_plan, write_tree, TREE_BYTES};
+use reference::verdict::tiny;
 use std::collections::BTreeMap;
 
 /// What each buffer that needs a length must meet.
-const LENGTHS: [(&str, usize); 5] = [
+const LENGTHS: [(&str, usize); 6] = [
+    ("empty, 10", 10),
     ("short, 10", 20),
     ("one short, 10", 20),
     ("just enough, accepted", 500),
@@ -22,7 +24,8 @@ pub struct Tally(BTreeMap<String, usize>);
 impl Tally {
     pub fn count(&mut self, case: &Case, expected: &Expected) {
         let outcome = outcome(case, expected);
-        for label in lengths(case, expected).into_iter().chain(details(case, expected)).chain([outcome]) {
+        let labels = lengths(case, expected).into_iter().chain(details(case, expected)).chain(searched(case, expected));
+        for label in labels.chain([outcome]) {
             *self.0.entry(label).or_default() += 1;
         }
     }
@@ -93,6 +96,7 @@ fn lengths(case: &Case, expected: &Expected) -> Vec<String> {
     for (name, bytes) in case.parts() {
         let word = match needed(case, expected.answer, name).map(|needed| bytes.len() as i64 - needed as i64) {
             None => continue,
+            Some(_) if bytes.is_empty() => "empty",
             Some(-1) => "one short",
             Some(0) => "just enough",
             Some(1) => "one more",
@@ -108,8 +112,12 @@ fn lengths(case: &Case, expected: &Expected) -> Vec<String> {
 /// Further distinctions: sizes of trees, ways to 8 and 9.
 fn details(case: &Case, expected: &Expected) -> Option<String> {
     match (case, expected.answer) {
-        (Case::Search { .. } | Case::ReadTree { .. }, Ok(nodes)) => Some(size(nodes)),
+        (Case::ReadTree { .. }, Ok(nodes)) => Some(size(nodes)),
         (Case::CheckTree { tree, .. }, Ok(_)) => Some(size(tree.len() / 3)),
+        (Case::CheckTree { tree, .. } | Case::WriteTree { tree, .. }, Err(SHAPE)) => Some(odd_length(tree)),
+        (Case::LeastSchedule { plan, .. } | Case::Screen { plan }, Ok(_)) if tiny(&Plan::from_bytes(plan)) => {
+            Some("by enumeration".into())
+        }
         (Case::Show { history, .. }, Err(MASK)) => Some(way_to_8(history)),
         (Case::Report { history, .. }, Err(MASK)) => Some(way_to_8(history)),
         (Case::Report { mask, .. }, Err(AFTER_DONE)) => {
@@ -134,6 +142,29 @@ fn size(nodes: usize) -> String {
         _ => "191",
     };
     format!("nodes: {word}")
+}
+
+/// Of a search: the tree's size, and whether the whole game was played.
+fn searched(case: &Case, expected: &Expected) -> Vec<String> {
+    match (case, expected.answer) {
+        (Case::Search { plan, .. }, Ok(_) | Err(HOPELESS)) => {
+            let whole = small(&Plan::from_bytes(plan)).then(|| "by the exhaustive game".to_string());
+            expected.answer.ok().map(size).into_iter().chain(whole).collect()
+        }
+        _ => Vec::new(),
+    }
+}
+
+/// Which lengths no tree has.
+fn odd_length(tree: &[u8]) -> String {
+    let word = match tree.len() {
+        0 => "none",
+        length if length % 3 != 0 => "not of three",
+        576 => "192",
+        577.. => "more",
+        _ => "a tree's",
+    };
+    format!("6, nodes: {word}")
 }
 
 fn way_to_8(history: &[u8]) -> String {

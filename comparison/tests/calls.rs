@@ -4,7 +4,7 @@
 //! prints every case before it is run, for a call that does not come back (with `-- --nocapture --test-threads=1`).
 
 use comparison::cases;
-use comparison::compare::check;
+use comparison::compare::{check, Pasted};
 use comparison::expected::expected;
 use comparison::made::Trial;
 use comparison::tally::Tally;
@@ -65,6 +65,7 @@ fn run(call: &Call) {
     let (mut random, mut tally, began) = (Random(seed), Tally::default(), Instant::now());
     for _ in 0..cases {
         let Trial { case, before, behind } = (call.make)(&mut random);
+        let _pasted = Pasted { case: &case, before: &before, behind: &behind };
         let expected = expected(&case);
         check(&case, &before, &behind, &expected);
         tally.count(&case, &expected);
@@ -131,7 +132,14 @@ const WRITE_TREE: Call = Call {
     seed: 5,
     cases: 10000,
     make: cases::write_tree_text,
-    needed: &[("written", 4000), ("6", 1500), ("10", 300)],
+    needed: &[
+        ("written", 4000),
+        ("6", 1500),
+        ("6, nodes: none", 20),
+        ("6, nodes: not of three", 500),
+        ("6, nodes: 192", 20),
+        ("10", 300),
+    ],
     sized: &["text"],
 };
 
@@ -151,6 +159,9 @@ const CHECK_TREE: Call = Call {
         ("nodes: some", 2500),
         ("nodes: many", 150),
         ("nodes: 191", 40),
+        ("6, nodes: none", 20),
+        ("6, nodes: not of three", 200),
+        ("6, nodes: 192", 20),
     ],
     sized: &["plan"],
 };
@@ -170,6 +181,7 @@ const SEARCH: Call = Call {
         ("nodes: some", 2000),
         ("nodes: many", 150),
         ("nodes: 191", 100),
+        ("by the exhaustive game", 500),
         ("tree just enough, 11", 200),
         ("tree longer, 11", 200),
     ],
@@ -253,6 +265,7 @@ const LEAST_SCHEDULE: Call = Call {
         ("8", 1000),
         ("10", 700),
         ("schedule longer, 8", 300),
+        ("by enumeration", 1000),
     ],
     sized: &["plan", "schedule"],
 };
@@ -261,7 +274,15 @@ const SCREEN: Call = Call {
     seed: 12,
     cases: 10000,
     make: cases::screen,
-    needed: &[("passes", 2500), ("fails", 2000), ("2", 250), ("3", 250), ("4", 250), ("10", 100)],
+    needed: &[
+        ("passes", 2500),
+        ("fails", 2000),
+        ("2", 250),
+        ("3", 250),
+        ("4", 250),
+        ("10", 100),
+        ("by enumeration", 1000),
+    ],
     sized: &["plan"],
 };
 

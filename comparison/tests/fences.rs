@@ -4,11 +4,12 @@
 //! --test-threads=1` print each case before it is run, so that the last one is the case in question.
 #![cfg(target_os = "linux")]
 
+use comparison::cases;
+use comparison::compare::{pasted, Pasted};
 use comparison::expected::expected;
 use comparison::fenced::{Fenced, Side};
 use comparison::library::{Case, Proved};
 use comparison::made::Trial;
-use comparison::{cases, compare::pasted};
 use reference::random::Random;
 
 const MAKERS: [fn(&mut Random) -> Trial; 13] = [
@@ -29,13 +30,14 @@ const MAKERS: [fn(&mut Random) -> Trial; 13] = [
 
 /// The case with all its buffers against the fences on this side.
 fn fenced(case: &Case, fences: &mut [Fenced], side: Side) {
+    let _pasted = Pasted { case, before: &[], behind: &[] };
     let expected = expected(case);
     let parts = case.parts();
     let lend = |(fence, (_, bytes)): (_, &(_, &[u8]))| Fenced::lend(fence, bytes, side);
     let mut lent: Vec<&mut [u8]> = fences.iter_mut().zip(&parts).map(lend).collect();
     let answer = case.perform(&Proved, &mut lent);
     let after: Vec<Vec<u8>> = lent.iter().map(|bytes| bytes.to_vec()).collect();
-    assert!((answer, after) == (expected.answer, expected.after), "{side:?}: {}", pasted(case, &[], &[]));
+    assert!((answer, after) == (expected.answer, expected.after), "{side:?}");
 }
 
 #[test]

@@ -304,7 +304,11 @@ fn verdicts_and_screens() {
         for values in masks_inside(plan.all_letters()).chain([random.byte(0, 255)]) {
             let answer = compare_verdict(&plan, values);
             tally.count(&answer);
-            *if answer.is_ok_and(|schedule| schedule.is_some()) { &mut least } else { &mut none } += 1;
+            match answer {
+                Ok(Some(_)) => least += 1,
+                Ok(None) => none += 1,
+                Err(_) => {}
+            }
         }
         *if compare_screen(&plan) == Ok(true) { &mut passed } else { &mut failed } += 1;
     }

@@ -1,7 +1,8 @@
 //! A reference planner, written straight from documents 01 (the scope) and 000 (Definitions 1 to 9).
 //!
 //! It shares no code with the proved planner and prefers the plainest rendering of each rule over speed: trees are
-//! judged through the strategies they describe, schedules are enumerated, the game is searched move by move.
+//! judged through the strategies they describe, the schedules of tiny plans are enumerated, the game is searched move by
+//! move.
 
 pub mod cases;
 pub mod checker;

@@ -446,7 +446,7 @@ All answers and all bytes left in the buffers were compared, and those of search
 fn linked() -> String {
     match option_env!("TUREENLARK_LIBRARY") {
         Some(folder) => format!("NOT KNOWN TO BE PROVED: the library that TUREENLARK_LIBRARY={folder} named"),
-        None => format!("the proved library, through its safe wrapper ({})", version("rt", "version")),
+        None => "the proved library, through its safe wrapper".to_string(),
     }
 }
 

@@ -1,4 +1,4 @@
-// Records as bytes: the fixed layouts in which plans, histories and steps cross to other programs.
+// Records as bytes: the fixed layouts in which plans and histories cross to other programs.
 pub mod history;
 pub mod plan_record;
 pub mod storing;

@@ -7,26 +7,37 @@ use mathlib.Core.Bool.{Bool, true, false}
 use mathlib.Core.List.{List, [], _∷_, _++_}
 use Prim.Native.Nat.{ℕ, _+_, _≤_, _<_}
 use native.Mathlib.Omega.{arith}
-use lib.Dec.{eqb}
+use lib.Dec.{leb, eqb}
 use lib.ListN.{length, take, drop, take-append-drop}
 use Rattle.network.proofs.Booleans.{by-test, eqb-is, eqb-no, leb-is, differs}
 use Rattle.plan.specs.declared.Refusal.the-variants as refusal
 use Rattle.plan.specs.declared.Plan.{Plan}
 use Rattle.plan.specs.Plan.{listed}
-use Rattle.plan.specs.Answer.{first, answered, filled}
+use Rattle.plan.specs.Answer.{unless, first, answered, filled}
 use Rattle.plan.proofs.AnswerLaws.{unless-is, first-none}
+use Rattle.frame.specs.Texts.{roomFault}
+use Rattle.judge.specs.Judge.{planFault}
+use Rattle.judge.proofs.WellFormedLaws.{fine-exactly}
+use Rattle.tree.specs.Nodes.{mostBytes, legalLength}
+use Rattle.tree.proofs.NodeLaws.{legal-is}
+use Rattle.plan_text.specs.PlanText.{planText, writePlan}
 use Rattle.plan_text.specs.ReadPlan.{readPlan}
-use Rattle.plan_text.proofs.PlanTextTheorems.{read-exactly, refused-zero}
+use Rattle.tree_text.specs.TreeText.{treeText, writeTree, readNodes, bytesIn, readTree}
+use Rattle.tree_text.proofs.TreeTextTheorems.{at-most-1724, whatever-reads}
+use Rattle.plan_text.proofs.PlanTextTheorems.{read-exactly, refused-zero, at-most-1025}
 use Rattle.search.specs.Search.{searchFault, searchAnswer}
 use Rattle.search.proofs.SearchTheorems.{count-bounds}
 use Rattle.run.specs.declared.History.{History}
 use Rattle.run.proofs.RunTheorems.{refused-same}
+use Rattle.following.specs.declared.Followed.{Followed}
+use Rattle.following.specs.Following.{followedRecord}
 use Rattle.answer_text.specs.AnswerText.{answerText}
 use Rattle.answer_text.proofs.AnswerTextTheorems.{answer-fits}
 use Rattle.records.specs.Records.{planIn, planBytes, planLength, historyIn, historyBytes, historyLength}
 use Rattle.records.proofs.RecordsTheorems.{plan-bytes, plan-crosses, behind-ignored, history-bytes-cross}
 use Rattle.tureenlark.specs.Numbers.{faultNumber, numbered}
-use Rattle.tureenlark.specs.Library.{planShort, historyShort, readPlanLeft, searchNumber, searchLeft, reportShort, reportAt, reportNumber, reportLeft, answerFault, answerTextNumber}
+use Rattle.tureenlark.specs.Library.{planShort, historyShort, readPlanLeft, writePlanNumber, readTreeNumber, writeTreeNumber, followShort, followed, followNumber, searchNumber, searchLeft, reportShort, reportAt, reportNumber, reportLeft, answerFault, answerTextNumber}
+use Rattle.tureenlark.proofs.FollowLaws.{steps-few}
 use Rattle.tureenlark.proofs.LibraryLaws.{short, long, number-short, left-short}
 
 -- ---- A number below 7F00 is a result, one from there on a refusal and its number, whatever the call.
@@ -42,7 +53,7 @@ pub refusal-said : (fault v : ℕ) → ¬ (fault ≡ 0) → numbered fault v ≡
 unfolding numbered
 refusal-said fault v some = rw (eqb-no fault 0 some)
 
--- so of each call that answers a count or a length
+-- So of each call that answers a count or a length.
 pub searched-exactly :
     (plan tree : List ℕ) → (searchNumber plan tree < 32512) ↔ (first (planShort plan) (searchFault (planIn plan) tree) ≡ 0)
 unfolding answered first
@@ -54,6 +65,57 @@ searched-exactly plan tree =
     (λ y. let b = count-bounds p tree (eqb-is (searchFault p tree) 0 y) in omega arith)
     (λ z. rw z (omega arith)) in
     result-exactly (first (planShort plan) (searchFault p tree)) n small
+
+pub plan-written-exactly :
+    (plan text : List ℕ) → (writePlanNumber plan text < 32512) ↔ (first (planShort plan) (writePlan (planIn plan) text .fault) ≡ 0)
+unfolding writePlan answered
+plan-written-exactly plan text =
+    let p = planIn plan in
+    let f = first (planFault p) (roomFault (planText p) text) in
+    let small : writePlan p text .value < 32512 =
+    by-test (eqb f 0)
+    (λ y. let wf = fine-exactly p .0 (first-none (planFault p) (roomFault (planText p) text) (eqb-is f 0 y) .0) in
+    let long = at-most-1025 p wf in
+    rw y (omega arith))
+    (λ z. rw z (omega arith)) in
+    result-exactly (first (planShort plan) f) (writePlan p text .value) small
+
+pub tree-written-exactly : (tree text : List ℕ) → (writeTreeNumber tree text < 32512) ↔ (writeTree tree text .fault ≡ 0)
+unfolding writeTree answered
+tree-written-exactly tree text =
+    let legal = unless (legalLength (length tree)) refusal.Shape in
+    let f = first legal (roomFault (treeText tree) text) in
+    let small : writeTree tree text .value < 32512 =
+    by-test (eqb f 0)
+    (λ y. let is = unless-is (legalLength (length tree)) refusal.Shape (first-none legal (roomFault (treeText tree) text) (eqb-is f 0 y) .0) in
+    let long = at-most-1724 tree is in
+    rw y (omega arith))
+    (λ z. rw z (omega arith)) in
+    result-exactly f (writeTree tree text .value) small
+
+pub tree-read-exactly : (text tree : List ℕ) → (readTreeNumber text tree < 32512) ↔ (readTree text tree .fault ≡ 0)
+unfolding readTree answered
+tree-read-exactly text tree =
+    let room = unless (leb mostBytes (length tree)) refusal.Buffer in
+    let a = readNodes text in
+    let f = first room (a .fault) in
+    let small : readTree text tree .value < 32512 =
+    by-test (eqb f 0)
+    (λ y. let none = first-none room (a .fault) (eqb-is f 0 y) .1 in
+    let h = whatever-reads text (a .value) (λ i. record { fault = none i; value = a .value }) in
+    let three = h .1 in
+    let legal = legal-is (length (bytesIn (a .value) text)) (h .3) in
+    rw y (omega arith))
+    (λ z. rw z (omega arith)) in
+    result-exactly f (readTree text tree .value) small
+
+-- (a record of steps has eight by its type)
+pub followed-exactly :
+    (plan tree history calls steps : List ℕ) (v : Followed) → v ≡ followedRecord (followed plan tree history calls) → length (v .steps) ≡ 8 →
+    (followNumber plan tree history calls steps < 32512) ↔ (followShort plan history steps ≡ 0)
+followed-exactly plan tree history calls steps v is eight =
+    let few = steps-few v (followed plan tree history calls) is eight in
+    result-exactly (followShort plan history steps) (length (followed plan tree history calls .steps)) (omega arith)
 
 pub answered-exactly : (input text : List ℕ) → (answerTextNumber input text < 32512) ↔ (answerFault input text ≡ 0)
 answered-exactly input text =

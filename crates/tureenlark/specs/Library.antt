@@ -30,6 +30,16 @@ use Rattle.tureenlark.specs.Numbers.{numbered, answerNumber, testNumber,
 abbrev pub shortFault : ℕ → List ℕ → ℕ
 shortFault n bs = unless (leb n (length bs)) refusal.Buffer
 
+-- (A plan's length and a history's stand with their layouts.)
+abbrev pub instructionLength : ℕ
+instructionLength = 3
+
+abbrev pub stepsLength : ℕ
+stepsLength = 32
+
+abbrev pub scheduleLength : ℕ
+scheduleLength = 8
+
 abbrev pub planShort : List ℕ → ℕ
 planShort plan = shortFault planLength plan
 
@@ -80,7 +90,7 @@ searchLeft plan tree = unlessShort (planShort plan) (searchLeaves (planIn plan) 
 -- ---- The crew's run.
 
 abbrev pub showShort : List ℕ → List ℕ → List ℕ → ℕ
-showShort plan history instruction = first (planShort plan) (first (historyShort history) (shortFault 3 instruction))
+showShort plan history instruction = first (planShort plan) (first (historyShort history) (shortFault instructionLength instruction))
 
 abbrev pub toldAt : List ℕ → List ℕ → List ℕ → Told
 toldAt plan tree history = showAnswer (planIn plan) tree (historyIn history)
@@ -121,7 +131,7 @@ unfoldable pub stepsBytes : Progress → List ℕ
 stepsBytes r = joinBelow 8 (λ i. stepBytes (getD (followedRecord r .steps) i zeroStep))
 
 abbrev pub followShort : List ℕ → List ℕ → List ℕ → ℕ
-followShort plan history steps = first (planShort plan) (first (historyShort history) (shortFault 32 steps))
+followShort plan history steps = first (planShort plan) (first (historyShort history) (shortFault stepsLength steps))
 
 abbrev pub followed : List ℕ → List ℕ → List ℕ → List ℕ → Progress
 followed plan tree history calls = afterCalls planner (planIn plan) tree (begun (historyIn history)) (callsIn calls)
@@ -141,7 +151,7 @@ followSteps plan tree history calls steps =
 -- ---- Fixed outcomes and the screen.
 
 abbrev pub scheduleShort : List ℕ → List ℕ → ℕ
-scheduleShort plan schedule = first (planShort plan) (shortFault 8 schedule)
+scheduleShort plan schedule = first (planShort plan) (shortFault scheduleLength schedule)
 
 abbrev pub leastScheduleNumber : List ℕ → ℕ → List ℕ → ℕ
 leastScheduleNumber plan values schedule =

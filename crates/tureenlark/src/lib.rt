@@ -1,4 +1,5 @@
 // The planner's calls for programs in other languages: numbers and byte slices of any length and contents. docs/LIBRARY.md says the layouts.
+// Every call with a record is refused with 10 first where that is too short.
 mod numbers;
 mod steps;
 
@@ -13,7 +14,7 @@ ghost use Rattle.tureenlark.specs.Library.{readTreeNumber, writeTreeNumb
 ghost use Rattle.tureenlark.specs.Library.{showNumber, showLeft, reportNumber, reportLeft, followNumber, followHistory, followSteps};
 ghost use Rattle.tureenlark.specs.Library.{leastScheduleNumber, leastScheduleLeft, screenNumber, answerTextNumber, answerTextLeft};
 
-// 1 where the record is a well-formed plan; or 2, 3, 4.
+// 1 where the record is a well-formed plan; or refused with 2, 3, 4.
 #[no_mangle]
 pub extern "C" fn tureenlark_judge_plan(plan: &[u8]) -> usize
     ensures { λ r. ⌜ r ≡ judgePlanNumber (now (plan .entry)) ⌝ }
@@ -24,7 +25,7 @@ pub extern "C" fn tureenlark_judge_plan(plan: &[u8]) -> usize
     numbers::judged(judge::judge(plan_record::plan_in(plan)))
 }
 
-// 1, and the record that a text says; or 1, 2, 3, 4, and a record that is all zero.
+// 1, and the record that a text says; or refused with 1, 2, 3, 4, and a record that is all zero.
 #[no_mangle]
 pub extern "C" fn tureenlark_read_plan(text: &[u8], plan: &mut [u8]) -> usize
     ensures answer { λ r. ⌜ r ≡ readPlanNumber (now (text .entry)) (now (plan .entry)) ⌝ }
@@ -39,7 +40,7 @@ pub extern "C" fn tureenlark_read_plan(text: &[u8], plan: &mut [u8]) -> usize
     numbers::judged(answer)
 }
 
-// The text of a plan, and its length; or 2, 3, 4, 10.
+// The text of a plan, and its length; or refused with 2, 3, 4, 10.
 #[no_mangle]
 pub extern "C" fn tureenlark_write_plan(plan: &[u8], text: &mut [u8]) -> usize
     ensures answer { λ r. ⌜ r ≡ writePlanNumber (now (plan .entry)) (now (text .entry)) ⌝ }
@@ -51,7 +52,7 @@ pub extern "C" fn tureenlark_write_plan(plan: &[u8], text: &mut [u8]) -> usize
     numbers::written(plan_text::writing::write_plan(plan_record::plan_in(plan), text))
 }
 
-// The tree that a text says, and the number of its nodes; or 10, 5.
+// The tree that a text says, and the number of its nodes; or refused with 10, 5.
 #[no_mangle]
 pub extern "C" fn tureenlark_read_tree(text: &[u8], tree: &mut [u8]) -> usize
     ensures answer { λ r. ⌜ r ≡ readTreeNumber (now (text .entry)) (now (tree .entry)) ⌝ }
@@ -60,7 +61,7 @@ pub extern "C" fn tureenlark_read_tree(text: &[u8], tree: &mut [u8]) -> usize
     numbers::tree_read(tree_text::reading::read_tree(text, tree))
 }
 
-// The text of a tree's bytes, and its length; or 6, 10.
+// The text of a tree's bytes, and its length; or refused with 6, 10.
 #[no_mangle]
 pub extern "C" fn tureenlark_write_tree(tree: &[u8], text: &mut [u8]) -> usize
     ensures answer { λ r. ⌜ r ≡ writeTreeNumber (now (tree .entry)) (now (text .entry)) ⌝ }
@@ -69,7 +70,7 @@ pub extern "C" fn tureenlark_write_tree(tree: &[u8], text: &mut [u8]) -> usize
     numbers::written(tree_text::writing::write_tree(tree, text))
 }
 
-// 1 where the bytes are a tree whose every path keeps the plan; or 2, 3, 4, 6, 7.
+// 1 where the bytes are a tree whose every path keeps the plan; or refused with 2, 3, 4, 6, 7.
 #[no_mangle]
 pub extern "C" fn tureenlark_check_tree(plan: &[u8], tree: &[u8]) -> usize
     ensures { λ r. ⌜ r ≡ checkTreeNumber (now (plan .entry)) (now (tree .entry)) ⌝ }
@@ -80,7 +81,7 @@ pub extern "C" fn tureenlark_check_tree(plan: &[u8], tree: &[u8]) -> usize
     numbers::judged(checker::check_tree(plan_record::plan_in(plan), tree))
 }
 
-// The tree of first moves, and the number of its nodes; or 10, 2, 3, 4, 11.
+// The tree of first moves, and the number of its nodes; or refused with 10, 2, 3, 4, 11.
 #[no_mangle]
 pub extern "C" fn tureenlark_search(plan: &[u8], tree: &mut [u8]) -> usize
     ensures answer { λ r. ⌜ r ≡ searchNumber (now (plan .entry)) (now (tree .entry)) ⌝ }
@@ -92,7 +93,7 @@ pub extern "C" fn tureenlark_search(plan: &[u8], tree: &mut [u8]) -> usize
     numbers::searched(search::search(plan_record::plan_in(plan), tree))
 }
 
-// 1, and the instruction told at the history; 0 where the crew is done; or 2, 3, 4, 6, 7, 8, 9.
+// 1, and the instruction told at the history; 0 where the crew is done; or refused with 2, 3, 4, 6, 7, 8, 9.
 #[no_mangle]
 pub extern "C" fn tureenlark_show(
     plan: &[u8],
@@ -121,7 +122,7 @@ pub extern "C" fn tureenlark_show(
     numbers::shown(shown)
 }
 
-// 1, and the history with one report more; or 2, 3, 4, 6, 7, 8, 9, and the history as it was.
+// 1, and the history with one report more; or refused with 2, 3, 4, 6, 7, 8, 9, and the history as it was.
 #[no_mangle]
 pub extern "C" fn tureenlark_report(plan: &[u8], tree: &[u8], history: &mut [u8], mask: u8) -> usize
     ensures answer { λ r. ⌜ r ≡ reportNumber (now (plan .entry)) (now (tree .entry)) (now (history .entry)) mask ⌝ }
@@ -141,6 +142,7 @@ pub extern "C" fn tureenlark_report(plan: &[u8], tree: &[u8], history: &mut [u8]
 }
 
 // The calls of a list, one after the other from a history on: the number of accepted reports, the history that is left, and the steps.
+// Refused as a whole for short records only.
 #[no_mangle]
 pub extern "C" fn tureenlark_follow(
     plan: &[u8],
@@ -169,7 +171,7 @@ pub extern "C" fn tureenlark_follow(
     followed.count as usize
 }
 
-// 1, and the least schedule where the letters of `values` are true and the others false; 0 for none; or 2, 3, 4, 8.
+// 1, and the least schedule where the letters of `values` are true and the others false; 0 for none; or refused with 2, 3, 4, 8.
 #[no_mangle]
 pub extern "C" fn tureenlark_least_schedule(plan: &[u8], values: u8, schedule: &mut [u8]) -> usize
     ensures answer { λ r. ⌜ r ≡ leastScheduleNumber (now (plan .entry)) values (now (schedule .entry)) ⌝ }
@@ -178,7 +180,7 @@ pub extern "C" fn tureenlark_least_schedule(plan: &[u8], values: u8, schedule: &
     if plan.len() < plan_record::LENGTH {
         return numbers::refused(Refusal::Buffer);
     }
-    if schedule.len() < 8 {
+    if schedule.len() < steps::SCHEDULE {
         return numbers::refused(Refusal::Buffer);
     }
     let verdict = verdict::least_schedule(plan_record::plan_in(plan), values);
@@ -188,7 +190,7 @@ pub extern "C" fn tureenlark_least_schedule(plan: &[u8], values: u8, schedule: &
     numbers::found(found, slots)
 }
 
-// 1 where every setting of all letters has a schedule, 0 where one has none; or 2, 3, 4.
+// 1 where every setting of all letters has a schedule, 0 where one has none; or refused with 2, 3, 4.
 #[no_mangle]
 pub extern "C" fn tureenlark_screen(plan: &[u8]) -> usize
     ensures { λ r. ⌜ r ≡ screenNumber (now (plan .entry)) ⌝ }
@@ -199,7 +201,7 @@ pub extern "C" fn tureenlark_screen(plan: &[u8]) -> usize
     numbers::screened(verdict::screen::screen_plan(plan_record::plan_in(plan)))
 }
 
-// What the program prints for an input, and its length; or 10.
+// What the program prints for an input, and its length; or refused with 10.
 #[no_mangle]
 pub extern "C" fn tureenlark_answer(input: &[u8], text: &mut [u8]) -> usize
     ensures answer { λ r. ⌜ r ≡ answerTextNumber (now (input .entry)) (now (text .entry)) ⌝ }
