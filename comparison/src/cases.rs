@@ -13,6 +13,23 @@ use reference::random::Random;
 use reference::search::program;
 use reference::text::{read_plan, TREE_BYTES};
 
+/// How the cases of each call are made.
+pub const MAKERS: [fn(&mut Random) -> Trial; 13] = [
+    judge_plan,
+    read_plan_text,
+    write_plan_text,
+    read_tree_text,
+    write_tree_text,
+    check_tree,
+    search,
+    show,
+    report,
+    follow,
+    least_schedule,
+    screen,
+    answer,
+];
+
 /// How many moves a search may try, mostly; one in fifty may try twenty times as many.
 const BUDGET: usize = 3000;
 

@@ -4,29 +4,12 @@
 //! --test-threads=1` print each case before it is run, so that the last one is the case in question.
 #![cfg(target_os = "linux")]
 
-use comparison::cases;
+use comparison::cases::MAKERS;
 use comparison::compare::{pasted, Pasted};
 use comparison::expected::expected;
 use comparison::fenced::{Fenced, Side};
 use comparison::library::{Case, Proved};
-use comparison::made::Trial;
 use reference::random::Random;
-
-const MAKERS: [fn(&mut Random) -> Trial; 13] = [
-    cases::judge_plan,
-    cases::read_plan_text,
-    cases::write_plan_text,
-    cases::read_tree_text,
-    cases::write_tree_text,
-    cases::check_tree,
-    cases::search,
-    cases::show,
-    cases::report,
-    cases::follow,
-    cases::least_schedule,
-    cases::screen,
-    cases::answer,
-];
 
 /// The case with all its buffers against the fences on this side.
 fn fenced(case: &Case, fences: &mut [Fenced], side: Side) {

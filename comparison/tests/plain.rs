@@ -1,8 +1,7 @@
 //! The plain planner beside the reference: random small cases with fixed seeds, and the executed vectors.
 
-use comparison::cases;
+use comparison::cases::MAKERS;
 use comparison::expected::expected;
-use comparison::made::Trial;
 use comparison::plain;
 use comparison::plain::library::Plain;
 use comparison::plain::plan::PLAN_BYTES;
@@ -318,25 +317,10 @@ fn verdicts_and_screens() {
 
 #[test]
 fn calls_over_records() {
-    let made: [fn(&mut Random) -> Trial; 13] = [
-        cases::judge_plan,
-        cases::read_plan_text,
-        cases::write_plan_text,
-        cases::read_tree_text,
-        cases::write_tree_text,
-        cases::check_tree,
-        cases::search,
-        cases::show,
-        cases::report,
-        cases::follow,
-        cases::least_schedule,
-        cases::screen,
-        cases::answer,
-    ];
     let mut random = Random(108);
     let mut tally = Tally([0; 12]);
     for number in 0..2600 {
-        let case = made[number % made.len()](&mut random).case;
+        let case = MAKERS[number % MAKERS.len()](&mut random).case;
         let expected = expected(&case);
         let mut lent: Vec<Vec<u8>> = case.parts().iter().map(|(_, bytes)| bytes.to_vec()).collect();
         let mut parts: Vec<&mut [u8]> = lent.iter_mut().map(|bytes| &mut bytes[..]).collect();

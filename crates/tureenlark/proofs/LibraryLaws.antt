@@ -10,7 +10,6 @@ use lib.Dec.{eqb}
 use lib.ListN.{length}
 use lib.Seq.{sets, sets-eq}
 use Rattle.plan.specs.Answer.{unless, first, filled, putAt}
-use Rattle.frame.specs.Texts.{roomFault}
 use Rattle.run.specs.Run.{Told, instruct, complete, refuse}
 use Rattle.verdict.specs.declared.Found.{Found}
 use Rattle.verdict.specs.declared.Found.the-variants as found
@@ -81,15 +80,7 @@ module _ (f : ℕ) where
   pub put-long : (bytes xs : List ℕ) → f ≡ 0 → length bytes ≤ length xs → putAt xs 0 bytes ≡ filled f bytes xs
   put-long bytes xs e h = ap (λ (b : Bool). cond b (sets xs 0 bytes) xs) (le-leb (0 + length bytes) (length xs) (omega arith)) ∙ filled-long bytes xs e h
 
--- ---- room for a text, what is told, and slots
-
-pub no-room : (text xs : List ℕ) → length xs < length text → roomFault text xs ≡ 10
-unfolding unless
-no-room text xs h = rw (lt-leb (length text) (length xs) h)
-
-pub room : (text xs : List ℕ) → length text ≤ length xs → roomFault text xs ≡ 0
-unfolding unless
-room text xs h = rw (le-leb (length text) (length xs) h)
+-- ---- what is told, and slots
 
 pub nothing-put : (xs : List ℕ) → xs ≡ putAt xs 0 []
 nothing-put xs = rw (le-leb 0 (length xs) (omega arith))

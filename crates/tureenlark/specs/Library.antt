@@ -55,10 +55,10 @@ unlessShort fault left xs = cond (eqb fault 0) left xs
 abbrev pub judgePlanNumber : List ℕ → ℕ
 judgePlanNumber plan = numbered (first (planShort plan) (planFault (planIn plan))) 1
 
--- under a refusal of the text the record is all zero
 abbrev pub readPlanNumber : List ℕ → List ℕ → ℕ
 readPlanNumber text plan = numbered (first (planShort plan) (readPlan text .fault)) 1
 
+-- where the text is refused the record is all zero
 abbrev pub readPlanLeft : List ℕ → List ℕ → List ℕ
 readPlanLeft text plan = filled (planShort plan) (planBytes (readPlan text .value)) plan
 
@@ -158,7 +158,7 @@ leastScheduleNumber plan values schedule =
     let a = leastSchedule (planIn plan) values in
     numbered (first (scheduleShort plan schedule) (a .fault)) (digit (a .value .scheduled))
 
--- beside "none" and under a refusal the slots are all zero
+-- beside "none", and where the plan or the letters are refused, the slots are all zero
 abbrev pub leastScheduleLeft : List ℕ → ℕ → List ℕ → List ℕ
 leastScheduleLeft plan values schedule =
     filled (scheduleShort plan schedule) (leastSchedule (planIn plan) values .value .slots) schedule

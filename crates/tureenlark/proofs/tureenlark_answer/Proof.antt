@@ -11,7 +11,7 @@ use Rattle.answer_text.specs.declared.AnswerText.{AnswerText}
 use Rattle.answer_text.specs.AnswerText.{answerText}
 use Rattle.answer_text.proofs.AnswerTextTheorems.{text-is, text-inside}
 use Rattle.tureenlark.specs.Library.{answerFault}
-use Rattle.tureenlark.proofs.LibraryLaws.{number-refused, number-fine, filled-short, put-long, no-room, room}
+use Rattle.tureenlark.proofs.LibraryLaws.{number-refused, number-fine, filled-short, put-long, short, long}
 use borrow.Author.Needs.{needs}
 use Rattle.tureenlark.proofs.tureenlark_answer.Statement.{statement}
 use Rattle.tureenlark.proofs.tureenlark_answer.Tie as tie
@@ -28,7 +28,7 @@ returns c =
     let t = now (c .before .before .before .before .before .before .args .text) in
     let is = c .before .before .before .answer-to .ensures in
     let n = ap (λ (x : AnswerText). x .length) is in
-    let e = no-room (answerText input) t (rw (← n) (omega arith)) in
+    let e = short (length (answerText input)) t (rw (← n) (omega arith)) in
     (c .refused .ensures ∙ number-refused (answerFault input t) (length (answerText input)) e, filled-short (answerFault input t) (answerText input) t e)
 
 array-share-prefix-bytes : tie.Need-array-share-prefix-bytes
@@ -53,7 +53,7 @@ returns-2 c =
     let r = c .before .before .before .before .before .before .before .answer-to .result in
     let n = ap (λ (x : AnswerText). x .length) is in
     let h : length (answerText input) ≤ length t = rw (← n) (omega arith) in
-    let e = room (answerText input) t h in (
+    let e = long (length (answerText input)) t h in (
       n ∙ number-fine (answerFault input t) (length (answerText input)) e,
       c .before .before .put-bytes .ensures ∙ ap (putAt t 0) (text-is input r is) ∙ put-long (answerFault input t) (answerText input) t e h,
     )
