@@ -7,6 +7,7 @@ use native.Mathlib.Omega.{arith}
 use native.Mathlib.Decide.{decLt}
 use lib.Dec.{eqb, leb}
 use lib.Bits.{bitAnd, bitXor}
+use lib.ListN.{length, List·getD-eq-default}
 use Rattle.network.specs.Mask.{bit, allBelow}
 use Rattle.network.specs.Network.{Scenario, Schedule, holds, satisfies, atMost, projected, feasible, keeps}
 use Rattle.network.proofs.Booleans.{by-test, both-ways, not-false, leb-yes, leb-is, ltb-yes, ltb-no, eqb-yes, eqb-is}
@@ -15,7 +16,7 @@ use Rattle.network.proofs.MaskLaws.{bit-zero, bit-above, no-bits}
 use Rattle.network.proofs.MachineLaws.{bit-and, bit-xor}
 use Rattle.plan.specs.declared.Constraint.{Constraint}
 use Rattle.plan.specs.declared.Plan.{Plan}
-use Rattle.plan.specs.Plan.{constraintAt, constraintOf, labelOf, signed, listed, networkOf}
+use Rattle.plan.specs.Plan.{zeroConstraint, constraintAt, constraintOf, labelOf, signed, listed, networkOf}
 use Rattle.constraints.specs.Constraints.{keepsOne}
 
 -- ---- the label test
@@ -76,3 +77,19 @@ pub keeps-all :
     (p : Plan) (ψ : Schedule) (s : Scenario) → keeps (networkOf p) ψ s ≡ allBelow (p .constraints) (λ j. keepsOne ψ s (constraintAt p j))
 unfolding keeps
 keeps-all p ψ s = kept-listed ψ s (p .constraints) (constraintAt p)
+
+-- the zero constraint asks nothing
+zero-kept : (ψ : Schedule) (s : Scenario) → keepsOne ψ s zeroConstraint ≡ true
+unfolding atMost signed
+zero-kept ψ s =
+    rw (keeps-one, leb-yes (ψ 0) (ψ 0 + 0) (omega arith)) (by-test (holds s (labelOf zeroConstraint)) (λ y. rw y) (λ z. rw z))
+
+-- it stands past the array, so that no more than the array matters
+pub keeps-past :
+    (p : Plan) (ψ : Schedule) (s : Scenario) (j : ℕ) → length (p .constraint) ≤ j →
+    allBelow j (λ i. keepsOne ψ s (constraintAt p i)) ≡ true → keeps (networkOf p) ψ s ≡ true
+keeps-past p ψ s j past kept =
+    keeps-all p ψ s
+    ∙ all-make (p .constraints) (λ i. keepsOne ψ s (constraintAt p i)) (λ i lt. by-cases (decLt i j)
+    (all-at j (λ i. keepsOne ψ s (constraintAt p i)) kept i)
+    (λ ge. rw (List·getD-eq-default (p .constraint) zeroConstraint {n = i} (omega arith)) (zero-kept ψ s)))

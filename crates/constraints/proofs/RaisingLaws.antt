@@ -1,15 +1,19 @@
--- Laws of what the code of the raise computes: the slot that a bound asks, one slot no earlier, turns taken from the front. Only the checker
--- need believe this file.
+-- Laws of what the code of the raise computes: the slot that a bound asks, one slot no earlier, turns taken from the front, eight slots
+-- compared. Only the checker need believe this file.
 use mathlib.Core.Path.{_≡_, refl, sym, ap, _∙_}
+use mathlib.Core.Bool.{Bool, true, false}
 use mathlib.Core.List.{List}
 use Prim.Native.Nat.{ℕ, zero, suc, _+_, _-_, _≤_, _<_, max}
 use native.Mathlib.Omega.{arith}
 use native.Mathlib.Numerals.{add-one}
+use lib.Dec.{eqb}
 use lib.ListN.{length, getD, set}
-use lib.Seq.{set-out, set-getD}
-use Rattle.network.specs.Network.{Scenario, Constraint}
+use lib.Seq.{set-out, set-getD, ext-getD}
+use Rattle.network.specs.Mask.{allBelow}
+use Rattle.network.specs.Network.{Scenario, Constraint, slotsIn}
 use Rattle.network.specs.Raise.{leastFrom, turn, turns}
-use Rattle.network.proofs.Booleans.{ltb-yes, ltb-no}
+use Rattle.network.proofs.Booleans.{clash, ltb-yes, ltb-no, eqb-yes, eqb-is}
+use Rattle.network.proofs.BelowLaws.{all-at, all-make}
 use Rattle.plan.specs.Plan.{signed, listed}
 
 -- ---- a bound in two's complement
@@ -48,3 +52,15 @@ pub turns-next :
     (cap : ℕ) (s : Scenario) (slots : List ℕ) (j : ℕ) (at : ℕ → Constraint) →
     turns cap s slots (listed (j + 1) at) ≡ turn cap s (turns cap s slots (listed j at)) (at j)
 turns-next cap s slots j at = ap (λ (n : ℕ). turns cap s slots (listed n at)) (add-one j) ∙ one-more cap s slots j at
+
+-- ---- eight slots compared
+
+abbrev pub alike : List ℕ → List ℕ → ℕ → Bool
+alike a b x = eqb (slotsIn a x) (slotsIn b x)
+
+pub same-is : (a b : List ℕ) → length a ≡ 8 → length b ≡ 8 → allBelow 8 (alike a b) ≡ true → a ≡ b
+same-is a b la lb t =
+    ext-getD 0 a b (la ∙ sym lb) (λ x lt. eqb-is (slotsIn a x) (slotsIn b x) (all-at 8 (alike a b) t x (omega arith)))
+
+pub same-not : (a b : List ℕ) → allBelow 8 (alike a b) ≡ false → b ≡ a → ⊥
+same-not a b z e = clash (all-make 8 (alike a b) (λ x lt. eqb-yes (slotsIn a x) (slotsIn b x) (rw e))) z

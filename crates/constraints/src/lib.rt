@@ -1,9 +1,9 @@
 // The label test, what it is to keep a constraint, and the raise. What a constraint asks is known to this crate alone.
 pub mod raising;
+pub mod rows;
 
 use plan::Constraint;
 use plan::Plan;
-use plan::entries;
 ghost use mathlib.Core.Path.{_≡_};
 ghost use lib.ListN.{getD};
 ghost use Rattle.network.specs.Mask.{bit};
@@ -51,14 +51,17 @@ pub fn constraint_kept(c: Constraint, slots: [u8; 8], values: u8) -> bool
     at_most(x, y, c.bound)
 }
 
-// Whether the slots keep every constraint of the plan whose label holds.
+// Whether the slots keep every constraint of the plan whose label holds. Past the array stand zero constraints, which are kept.
 pub fn all_kept(plan: Plan, slots: [u8; 8], values: u8) -> bool
     ensures { λ r. ⌜ r ≡ keeps (networkOf plan) (slotsIn slots) (bit values) ⌝ }
 {
     let n = plan.constraints;
     let mut j: u8 = 0;
     while j < n {
-        let c = entries::constraint_at(plan, j);
+        if 64 <= j {
+            return true;
+        }
+        let c = plan.constraint[j as usize];
         if !constraint_kept(c, slots, values) {
             return false;
         }

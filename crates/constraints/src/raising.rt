@@ -1,14 +1,15 @@
-// The raise: points are moved to the slots that their constraints ask.
+// The raise: points are moved to the slots that their constraints ask, round by round until a round changes nothing.
+use crate::rows;
 use plan::Constraint;
-use plan::Plan;
-use plan::entries;
 ghost use mathlib.Core.Path.{_≡_};
 ghost use Prim.Native.Nat.{min, max};
+ghost use lib.Dec.{eqb};
 ghost use lib.ListN.{getD, set};
-ghost use Rattle.network.specs.Mask.{bit};
+ghost use Rattle.network.specs.Mask.{bit, allBelow};
 ghost use Rattle.network.specs.Network.{slotsIn};
-ghost use Rattle.network.specs.Raise.{leastFrom, asked, turn, raised};
-ghost use Rattle.plan.specs.Plan.{signed, constraintOf, networkOf};
+ghost use Rattle.network.specs.Raise.{leastFrom, asked, turn, turns};
+ghost use Rattle.plan.specs.Plan.{signed, constraintOf};
+ghost use Rattle.constraints.specs.Rows.{rowsSay};
 
 // The least slot x with y - x at most the bound, which is in two's complement; 0 where that would be less.
 fn least_from(y: u8, bound: u16) -> u32
@@ -68,17 +69,30 @@ fn take_turn(c: Constraint, slots: [u8; 8], values: u8, cap: u8) -> [u8; 8]
     )
 }
 
-// One round of the raise: each constraint takes its turn.
-pub fn raise(plan: Plan, slots: [u8; 8], values: u8, cap: u8) -> [u8; 8]
-    ensures { λ r. ⌜ r ≡ raised cap (networkOf plan) (bit values) slots ⌝ }
+// One round of the raise: each of the constraints in the rows takes its turn.
+pub fn raise(rows: &[u16; 320], count: u8, slots: [u8; 8], values: u8, cap: u8) -> [u8; 8]
+    ensures { λ r. ⌜ r ≡ turns cap (bit values) slots (rowsSay count (now (rows .entry))) ⌝ }
 {
-    let count = plan.constraints;
     let mut moved = slots;
     let mut k: u8 = 0;
     while k < count {
-        let next = take_turn(entries::constraint_at(plan, k), moved, values, cap);
+        let next = take_turn(rows::row_at(rows, k), moved, values, cap);
         moved = next;
         k += 1;
     }
     moved
+}
+
+// Whether all eight slots are the same: a round changed nothing.
+pub fn same_slots(a: [u8; 8], b: [u8; 8]) -> bool
+    ensures { λ r. ⌜ r ≡ allBelow 8 (λ x. eqb (slotsIn a x) (slotsIn b x)) ⌝ }
+{
+    let mut x: u8 = 0;
+    while x < 8 {
+        if a[x as usize] != b[x as usize] {
+            return false;
+        }
+        x += 1;
+    }
+    true
 }

@@ -6,16 +6,15 @@ use Prim.Native.Nat.{ℕ, _<_}
 use native.Mathlib.Omega.{arith}
 use native.Mathlib.Decide.{decLt}
 use native.Mathlib.Numerals.{add-one}
-use lib.Dec.{ltb}
 use lib.ListN.{length, List·getD-eq-default}
 use Rattle.network.specs.Mask.{bit, mask, count}
 use Rattle.network.specs.Network.{Network, condition, decision, combined, keeps, slotsIn}
 use Rattle.network.specs.Game.{start, hears, settles, Legal, Outcome, after, kept}
 use Rattle.network.specs.Search.{over}
-use Rattle.network.proofs.Booleans.{by-test, clash, and-left, and-right, not-true, ltb-is}
+use Rattle.network.proofs.Booleans.{by-test, clash, and-left, and-right, ltb-is}
 use Rattle.network.proofs.BelowLaws.{count-drop}
 use Rattle.network.proofs.MaskLaws.{bit-zero, bit-mask, in-mask, mask-cong, mask-narrow, mask-first, no-bits}
-use Rattle.network.proofs.NetworkLaws.{decision-of, condition-of, keeps-cong}
+use Rattle.network.proofs.NetworkLaws.{decision-of, condition-of, one-kind, keeps-cong}
 use Rattle.network.proofs.GameLaws.{Inside, heard-condition, heard-point, settled-decision, outcome-outside}
 use Rattle.network.proofs.SearchLaws.{over-is}
 use Rattle.plan.specs.declared.Plan.{Plan}
@@ -101,12 +100,6 @@ module _ (p : Plan) (wf : WellFormed p) where
 
   -- ---- after a move
 
-  -- a letter is of one kind
-  one-kind : {C : Type 0} (l : ℕ) → condition net l ≡ true → decision net l ≡ true → C
-  one-kind l c d =
-      let used = ltb l (p .letters) in
-      clash (and-right used (net .is-decision l) d) (not-true (net .is-decision l) (and-right used (not (net .is-decision l)) c))
-
   -- a position has eight slots, and so has the one after it
   pub after-long : (at : Position) (v : Node) (o : ℕ) → length (positionAfter at v o .slots) ≡ 8
   after-long at v o = length-listed 8 _
@@ -160,7 +153,7 @@ module _ (p : Plan) (wf : WellFormed p) where
           ≡ cond (hears net (moveOf v) l) (bit o l) (condition net l && bit (at .values) l)
       heard-after l =
           let no-choice : condition net l ≡ true → bit (v .choices) l ≡ false
-          = λ c. by-test (bit (v .choices) l) (λ y. one-kind l c (settled-decision net (moveOf v) l (lg .disclosed l y))) (λ z. z) in
+          = λ c. by-test (bit (v .choices) l) (λ y. one-kind net l c (settled-decision net (moveOf v) l (lg .disclosed l y))) (λ z. z) in
           value-after (condition net l) (bit (v .points) (net .disclosing l)) (value l) (bit o l) (bit (at .values) l)
           (λ c y. rw (unset l y, no-choice c))
           (λ c z. rw (no-choice c, outcome-outside net (moveOf v) o out l (rw (z, and-false)), only-old))
@@ -170,7 +163,7 @@ module _ (p : Plan) (wf : WellFormed p) where
           ≡ cond (settles net (moveOf v) l) (bit (v .choices) l) (decision net l && bit (at .values) l)
       decided-after l =
           let no-outcome : decision net l ≡ true → bit o l ≡ false
-          = λ d. by-test (bit o l) (λ y. one-kind l (heard-condition net (moveOf v) l (out l y)) d) (λ z. z) in
+          = λ d. by-test (bit o l) (λ y. one-kind net l (heard-condition net (moveOf v) l (out l y)) d) (λ z. z) in
           value-after (decision net l) (bit (v .points) (net .disclosing l)) (value l) (bit (v .choices) l) (bit (at .values) l)
           (λ d y. rw (unset l y, no-outcome d, or-false))
           (λ d z. rw (unchosen l (rw (z, and-false)), no-outcome d, only-old))

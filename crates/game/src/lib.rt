@@ -51,7 +51,7 @@ pub fn legal(plan: Plan, at: Position, v: Node) -> bool
 }
 
 // The slots, with this slot given to each of these points.
-fn slots_after(slots: [u8; 8], points: u8, slot: u8) -> [u8; 8]
+pub fn slots_after(slots: [u8; 8], points: u8, slot: u8) -> [u8; 8]
     ensures { λ r. ⌜ r ≡ slotsAfter slots points slot ⌝ }
 {
     let mut out = slots;

@@ -7,8 +7,9 @@ use plan::Plan;
 use plan::Refusal;
 use plan::entries;
 ghost use mathlib.Core.Path.{_≡_};
+ghost use mathlib.Core.Bool.{cond};
 ghost use Rattle.plan.specs.Refusal.{judgedNumber};
-ghost use Rattle.judge.specs.Judge.{headFine, takenBefore, letterFine, letterUnused, letterEntry, lettersFine, boundFine, constraintFine, constraintUnused, constraintEntry, constraintsFine, planFault};
+ghost use Rattle.judge.specs.Judge.{headFine, takenBefore, letterFine, letterUnused, letterEntry, lettersFine, boundFine, constraintFine, constraintUnused, constraintsFine, planFault};
 
 // Whether the four head values are in their ranges.
 pub fn head_fine(horizon: u8, points: u8, letters: u8, constraints: u8) -> bool
@@ -81,15 +82,22 @@ fn bound_fine(bound: u16) -> bool
     (bound < 1000) | (64537 <= bound)
 }
 
+// Whether c can be a constraint over this many points and letters.
+fn constraint_over(points: u8, letters: u8, c: Constraint) -> bool
+    ensures { λ r. ⌜ ((p : Plan) → p .points ≡ points → p .letters ≡ letters → r ≡ constraintFine p c) ⌝ }
+{
+    (c.from < points)
+        & (c.to < points)
+        & bound_fine(c.bound)
+        & masks::among(c.need, letters)
+        & masks::subset(c.truth, c.need)
+}
+
 // Whether c can be a constraint of the plan.
 pub fn constraint_fine(plan: Plan, c: Constraint) -> bool
     ensures { λ r. ⌜ r ≡ constraintFine plan c ⌝ }
 {
-    (c.from < plan.points)
-        & (c.to < plan.points)
-        & bound_fine(c.bound)
-        & masks::among(c.need, plan.letters)
-        & masks::subset(c.truth, c.need)
+    constraint_over(plan.points, plan.letters, c)
 }
 
 fn constraint_unused(c: Constraint) -> bool
@@ -98,13 +106,12 @@ fn constraint_unused(c: Constraint) -> bool
     (c.from == 0) & (c.to == 0) & (c.bound == 0) & (c.need == 0) & (c.truth == 0)
 }
 
-// Whether entry j of the constraints is fine where it is used, and zero where not.
-fn constraint_entry(plan: Plan, j: u8) -> bool
-    ensures { λ r. ⌜ r ≡ constraintEntry plan j ⌝ }
+// Whether the entry c is fine where it is used, and zero where not. The record itself would be copied for every entry.
+fn constraint_entry(points: u8, letters: u8, used: bool, c: Constraint) -> bool
+    ensures { λ r. ⌜ ((p : Plan) → p .points ≡ points → p .letters ≡ letters → r ≡ cond used (constraintFine p c) (constraintUnused c)) ⌝ }
 {
-    let c = entries::constraint_at(plan, j);
-    if j < plan.constraints {
-        return constraint_fine(plan, c);
+    if used {
+        return constraint_over(points, letters, c);
     }
     constraint_unused(c)
 }
@@ -114,7 +121,8 @@ fn constraints_fine(plan: Plan) -> bool
 {
     let mut j: u8 = 0;
     while j < 64 {
-        if !constraint_entry(plan, j) {
+        let c = plan.constraint[j as usize];
+        if !constraint_entry(plan.points, plan.letters, j < plan.constraints, c) {
             return false;
         }
         j += 1;

@@ -1,9 +1,12 @@
--- Definitions: the legal moves one after the other. A reader must believe `FirstOf`. The rest is tied to it by `first-step-is` and
--- `next-step-is` of proofs/OrderLaws.antt.
-use mathlib.Core.Bool.{not, cond, _&&_}
-use Prim.Native.Nat.{ℕ, _+_}
+-- Definitions: the legal and timely moves one after the other. A reader must believe `FirstOf` and `Timely`. The rest is tied to them by
+-- `first-step-is` and `next-step-is` of proofs/OrderLaws.antt.
+use mathlib.Core.Path.{_≡_}
+use mathlib.Core.Bool.{Bool, true, not, cond, _&&_}
+use mathlib.Core.List.{List}
+use Prim.Native.Nat.{ℕ, suc, _+_, _-_, _≤_}
 use lib.Dec.{leb, eqb}
-use Rattle.network.specs.Network.{Network}
+use Rattle.network.specs.Mask.{bit, mask, firstBelow}
+use Rattle.network.specs.Network.{Network, slotsIn}
 use Rattle.network.specs.Game.{State, Move, Legal}
 use Rattle.network.specs.FirstMoves.{Before}
 use Rattle.masks.specs.Masks.{nextInside}
@@ -21,24 +24,36 @@ FirstOf net s R step.End = (k : Move) → Legal net s k → ¬ R k
 FirstOf net s R (step.Try v) =
     Legal net s (moveOf v) × R (moveOf v) × ((k : Move) → Legal net s k → R k → ¬ Before k (moveOf v))
 
--- in this slot or a later one: the least set of points, no choices
-unfoldable pub fromSlot : Plan → Position → ℕ → Step
-fromSlot p at slot =
-    cond (leb slot (p .horizon) && not (eqb (at .left) 0))
-    (step.Try (record { slot = slot; points = nextInside (at .left) 0; choices = 0 }))
+-- no point is performed before its soonest slot
+abbrev pub Timely : List ℕ → Move → Type 0
+Timely soonest m = (x : ℕ) → bit (m .points) x ≡ true → slotsIn soonest x ≤ m .slot
+
+-- the points left that may be performed in a slot; whether there are any
+abbrev pub readyAt : Position → List ℕ → ℕ → ℕ
+readyAt at soonest slot = mask 8 (λ x. bit (at .left) x && leb (slotsIn soonest x) slot)
+
+abbrev pub someReady : Position → List ℕ → ℕ → Bool
+someReady at soonest slot = not (eqb (readyAt at soonest slot) 0)
+
+-- in the first slot from this one to the horizon in which some are ready: the least set of them, no choices
+unfoldable pub fromSlot : Plan → Position → List ℕ → ℕ → Step
+fromSlot p at soonest slot =
+    let t = slot + firstBelow (suc (p .horizon) - slot) (λ i. someReady at soonest (slot + i)) in
+    cond (leb t (p .horizon))
+    (step.Try (record { slot = t; points = nextInside (readyAt at soonest t) 0; choices = 0 }))
     step.End
 
 -- the first of all
-abbrev pub firstStep : Plan → Position → Step
-firstStep p at = fromSlot p at (at .earliest)
+abbrev pub firstStep : Plan → Position → List ℕ → Step
+firstStep p at soonest = fromSlot p at soonest (at .earliest)
 
--- behind a legal move: the next choices for the same points, else the next set of points in the same slot, else the next slot
-unfoldable pub nextStep : Plan → Position → Node → Step
-nextStep p at v =
+-- behind one of the moves: the next choices for the same points, else the next set of ready points in the same slot, else the next slot
+unfoldable pub nextStep : Plan → Position → List ℕ → Node → Step
+nextStep p at soonest v =
     let choices = nextInside (settledBy p (v .points)) (v .choices) in
-    let points = nextInside (at .left) (v .points) in
+    let points = nextInside (readyAt at soonest (v .slot)) (v .points) in
     cond (not (eqb choices 0))
     (step.Try (record { slot = v .slot; points = v .points; choices = choices }))
     (cond (not (eqb points 0))
     (step.Try (record { slot = v .slot; points = points; choices = 0 }))
-    (fromSlot p at (v .slot + 1)))
+    (fromSlot p at soonest (v .slot + 1)))

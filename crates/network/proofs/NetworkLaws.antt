@@ -8,7 +8,7 @@ use native.Mathlib.Omega.{arith}
 use lib.Dec.{ltb}
 use Rattle.network.specs.Mask.{bit}
 use Rattle.network.specs.Network.{Label, Constraint, Network, Scenario, Schedule, condition, decision, combined, holds, projected, satisfies, feasible, keeps, Each, InNetwork, IsNetwork}
-use Rattle.network.proofs.Booleans.{by-test, clash, and-left, and-right, and-make, ltb-yes, ltb-is}
+use Rattle.network.proofs.Booleans.{by-test, clash, not-true, and-left, and-right, and-make, ltb-yes, ltb-is}
 use Rattle.network.proofs.BelowLaws.{all-at, all-make, all-cong}
 
 module _ (net : Network) where
@@ -31,6 +31,13 @@ module _ (net : Network) where
 
   pub decision-of : (l : ℕ) → l < net .letters → net .is-decision l ≡ true → decision net l ≡ true
   decision-of l h e = rw (ltb-yes l (net .letters) h, e)
+
+  -- a letter is of one kind
+  pub not-decision : (l : ℕ) → condition net l ≡ true → net .is-decision l ≡ false
+  not-decision l c = not-true (net .is-decision l) (and-right (ltb l (net .letters)) (not (net .is-decision l)) c)
+
+  pub one-kind : {C : Type 0} (l : ℕ) → condition net l ≡ true → decision net l ≡ true → C
+  one-kind l c d = clash (and-right (ltb l (net .letters)) (net .is-decision l) d) (not-decision l c)
 
   -- two pairs of a condition scenario and a decision scenario that agree on the letters that they set
   pub combined-cong :

@@ -1,6 +1,7 @@
 -- Laws of masks of letters: one more letter below, the letters of both masks; of kinds of letters. Only the checker need believe this file.
-use mathlib.Core.Path.{_≡_, ap, _∙_}
+use mathlib.Core.Path.{_≡_, refl, ap, _∙_}
 use mathlib.Core.Bool.{Bool, true, false, not}
+use mathlib.Core.List.{List, []}
 use Prim.Native.Nat.{ℕ, suc, _+_, _-_, _*_, _^_, _≤_, _<_}
 use native.Mathlib.Omega.{arith}
 use native.Mathlib.Nat.{add-zero}
@@ -8,6 +9,7 @@ use lib.Pow.{pow-mono}
 use Rattle.network.specs.Mask.{digit, mask}
 use Rattle.network.proofs.Booleans.{ltb-yes, ltb-no, eqb-no}
 use Rattle.network.proofs.MaskLaws.{mask-cong, mask-lt}
+use Rattle.plan.specs.declared.Letter.{Letter}
 use Rattle.plan.specs.declared.Plan.{Plan}
 use Rattle.plan.specs.Plan.{letterAt, networkOf}
 use Rattle.plan.specs.Letters.{ofKind}
@@ -61,3 +63,13 @@ pub condition-kind :
     (p : Plan) (decided : Bool) (i : ℕ) → i < p .letters → ¬ (letterAt p i .kind ≡ 1) → ofKind (networkOf p) decided i ≡ not decided
 condition-kind p true i h n = rw (ltb-yes i (p .letters) h, eqb-no (letterAt p i .kind) 1 n)
 condition-kind p false i h n = rw (ltb-yes i (p .letters) h, eqb-no (letterAt p i .kind) 1 n)
+
+-- a plan with these letters: no more of it matters to their kinds
+abbrev pub lettersOnly : ℕ → List Letter → Plan
+lettersOnly count letters = record { horizon = 0; points = 0; letters = count; constraints = 0; letter = letters; constraint = [] }
+
+pub kinds-only :
+    (p : Plan) (count : ℕ) (letters : List Letter) (decided : Bool) → p .letters ≡ count → p .letter ≡ letters →
+    mask 6 (ofKind (networkOf (lettersOnly count letters)) decided) ≡ mask 6 (ofKind (networkOf p) decided)
+kinds-only p count letters true few same = rw (← few, ← same) refl
+kinds-only p count letters false few same = rw (← few, ← same) refl

@@ -1,7 +1,7 @@
 -- Definitions: masks of a plan's letters. A plan record has room for six. A reader must believe this file.
 use mathlib.Core.Bool.{Bool, true, false}
 use Prim.Native.Nat.{ℕ}
-use Rattle.network.specs.Mask.{bit, mask}
+use Rattle.network.specs.Mask.{mask}
 use Rattle.network.specs.Network.{Network, condition, decision, conditionAt, decisionAt}
 use Rattle.plan.specs.declared.Plan.{Plan}
 use Rattle.plan.specs.Plan.{networkOf}
@@ -11,11 +11,7 @@ abbrev pub ofKind : Network → Bool → ℕ → Bool
 ofKind net true = decision net
 ofKind net false = condition net
 
--- the entries whose disclosing point is among these points, used or not; the next two leave out those past the letters
-abbrev pub disclosedBy : Plan → ℕ → ℕ
-disclosedBy p points = mask 6 (λ l. bit points (networkOf p .disclosing l))
-
--- the conditions among them, heard after a move; the decisions among them, set by it
+-- the conditions that these points disclose, heard after a move; the decisions that they disclose, set by it
 abbrev pub heardBy : Plan → ℕ → ℕ
 heardBy p points = mask 6 (conditionAt (networkOf p) points)
 

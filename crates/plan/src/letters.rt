@@ -1,11 +1,13 @@
 // The letters of a plan as masks: its conditions, its decisions, those that some points disclose.
+use crate::Letter;
 use crate::Plan;
-use crate::entries;
 ghost use mathlib.Core.Path.{_≡_};
-ghost use Rattle.network.specs.Mask.{digit, mask};
+ghost use mathlib.Core.Bool.{_&&_};
+ghost use lib.ListN.{getD};
+ghost use Rattle.network.specs.Mask.{bit, digit, mask};
 ghost use Rattle.network.specs.Network.{condition, decision};
-ghost use Rattle.plan.specs.Plan.{networkOf};
-ghost use Rattle.plan.specs.Letters.{ofKind, disclosedBy, heardBy, settledBy};
+ghost use Rattle.plan.specs.Plan.{zeroLetter, letterAt, networkOf};
+ghost use Rattle.plan.specs.Letters.{ofKind, heardBy, settledBy};
 
 fn one_if(b: bool) -> u8
     ensures { λ r. ⌜ r ≡ digit b ⌝ }
@@ -13,14 +15,13 @@ fn one_if(b: bool) -> u8
     if b { 1 } else { 0 }
 }
 
-// Whether letter i is one of the plan's decisions, or else one of its conditions.
-fn is_of_kind(plan: Plan, decided: bool, i: u8) -> bool
-    ensures { λ r. ⌜ r ≡ ofKind (networkOf plan) decided i ⌝ }
+// Whether letter i, which is l, is one of the decisions among the first `count`, or else one of the conditions.
+fn is_of_kind(count: u8, l: Letter, decided: bool, i: u8) -> bool
+    ensures { λ r. ⌜ ((p : Plan) → p .letters ≡ count → letterAt p i ≡ l → r ≡ ofKind (networkOf p) decided i) ⌝ }
 {
-    if plan.letters <= i {
+    if count <= i {
         return false;
     }
-    let l = entries::letter_at(plan, i);
     if l.kind == 1 {
         return decided;
     }
@@ -28,56 +29,67 @@ fn is_of_kind(plan: Plan, decided: bool, i: u8) -> bool
 }
 
 // The letters of one kind. The highest comes first, so that each step doubles the mask.
-fn of_kind(plan: Plan, decided: bool) -> u8
-    ensures { λ r. ⌜ r ≡ mask 6 (ofKind (networkOf plan) decided) ⌝ }
+fn of_kind(letters: [Letter; 6], count: u8, decided: bool) -> u8
+    ensures { λ r. ⌜ ((p : Plan) → p .letters ≡ count → p .letter ≡ letters → r ≡ mask 6 (ofKind (networkOf p) decided)) ⌝ }
 {
     let mut m: u8 = 0;
     let mut i: u8 = 6;
     while 0 < i {
         i = i - 1;
-        m = one_if(is_of_kind(plan, decided, i)) + 2 * m;
+        m = one_if(is_of_kind(count, letters[i as usize], decided, i)) + 2 * m;
     }
     m
 }
 
 // The entries whose disclosing point is one of these, used or not.
-fn disclosed(plan: Plan, points: u8) -> u8
-    ensures { λ r. ⌜ r ≡ disclosedBy plan points ⌝ }
+fn disclosed(letters: [Letter; 6], points: u8) -> u8
+    ensures { λ r. ⌜ r ≡ mask 6 (λ l. bit points (getD letters l zeroLetter .point)) ⌝ }
 {
     let mut m: u8 = 0;
     let mut i: u8 = 6;
     while 0 < i {
         i = i - 1;
-        let l = entries::letter_at(plan, i);
+        let l = letters[i as usize];
         m = one_if(masks::has(points, l.point)) + 2 * m;
     }
     m
+}
+
+// The letters of one kind that these points disclose. The letters alone are handed down: the record would be copied at every move.
+fn told(letters: [Letter; 6], count: u8, decided: bool, points: u8) -> u8
+    ensures { λ r. ⌜ ((p : Plan) → p .letters ≡ count → p .letter ≡ letters → r ≡ mask 6 (λ l. ofKind (networkOf p) decided l && bit points (networkOf p .disclosing l))) ⌝ }
+{
+    of_kind(letters, count, decided) & disclosed(letters, points)
 }
 
 // The plan's conditions, set by the world.
 pub fn conditions(plan: Plan) -> u8
     ensures { λ r. ⌜ r ≡ mask 6 (condition (networkOf plan)) ⌝ }
 {
-    of_kind(plan, false)
+    let letters = plan.letter;
+    of_kind(letters, plan.letters, false)
 }
 
 // The plan's decisions, set by the agent.
 pub fn decisions(plan: Plan) -> u8
     ensures { λ r. ⌜ r ≡ mask 6 (decision (networkOf plan)) ⌝ }
 {
-    of_kind(plan, true)
+    let letters = plan.letter;
+    of_kind(letters, plan.letters, true)
 }
 
 // The conditions that these points disclose: what is heard after a move that performs them.
 pub fn heard(plan: Plan, points: u8) -> u8
     ensures { λ r. ⌜ r ≡ heardBy plan points ⌝ }
 {
-    conditions(plan) & disclosed(plan, points)
+    let letters = plan.letter;
+    told(letters, plan.letters, false, points)
 }
 
 // The decisions that these points disclose: those that a move with them may choose.
 pub fn settled(plan: Plan, points: u8) -> u8
     ensures { λ r. ⌜ r ≡ settledBy plan points ⌝ }
 {
-    decisions(plan) & disclosed(plan, points)
+    let letters = plan.letter;
+    told(letters, plan.letters, true, points)
 }

@@ -1,3 +1,4 @@
 -- Laws: the modules of this folder. Only the checker need believe them.
-pub mod BrokenLaws
-pub mod Cases
+pub mod SettingLaws
+pub mod WinLaws
+pub mod MoveLaws

@@ -1,22 +1,25 @@
--- Definitions: what the test of a state looks at. A reader need not believe this file: the contract of `lost` speaks of the game alone.
-use mathlib.Core.Bool.{Bool, not, _&&_}
-use Prim.Native.Nat.{ℕ}
-use lib.Bits.{bitAnd, bitOr}
-use lib.Dec.{eqb}
-use Rattle.network.specs.Mask.{bit}
-use Rattle.network.specs.Network.{slotsIn}
+-- Definitions: what the table of least slots needs to know of a position. A reader need not believe this file: the contracts of `lost`,
+-- `move_lost` and `soonest` speak of the game alone.
+use Prim.Native.Nat.{_%_, _^_}
 use Rattle.plan.specs.declared.Plan.{Plan}
-use Rattle.plan.specs.declared.Constraint.{Constraint}
+use Rattle.plan.specs.Plan.{letterAt, listed}
 use Rattle.plan.specs.Letters.{heardBy, settledBy}
-use Rattle.constraints.specs.Constraints.{keepsOne}
+use Rattle.table.specs.declared.View.{View}
 use Rattle.game.specs.declared.Position.{Position}
+use Rattle.game.specs.Position.{slotsAfter}
 
--- the letters that points still left disclose
-abbrev pub unknownAt : Plan → ℕ → ℕ
-unknownAt p left = bitOr (heardBy p left) (settledBy p left)
-
--- both points performed, no letter of the label unknown, not kept
-unfoldable pub brokenAt : Position → ℕ → Constraint → Bool
-brokenAt at unknown c =
-    not (bit (at .left) (c .from)) && not (bit (at .left) (c .to)) && eqb (bitAnd (c .need) unknown) 0
-    && not (keepsOne (slotsIn (at .slots)) (bit (at .values)) c)
+-- The view of a position. (The remainder makes the first open slot a byte: it is no later than that slot.)
+abbrev pub viewOf : Plan → Position → View
+viewOf p at =
+    record {
+      constraints = p .constraints;
+      points = p .points;
+      left = at .left;
+      values = at .values;
+      unheard = heardBy p (at .left);
+      undecided = settledBy p (at .left);
+      low = slotsAfter (at .slots) (at .left) (at .earliest % 256);
+      cap = slotsAfter (at .slots) (at .left) (p .horizon);
+      disclosing = listed 6 (λ l. letterAt p l .point);
+      own = listed 8 (λ x. settledBy p (2 ^ x));
+    }

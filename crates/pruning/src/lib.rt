@@ -1,36 +1,50 @@
-// States of the game that are lost already. The search leaves them out.
+// States of the game that are lost already, and slots before which no winning move performs a point: what the search leaves out.
+pub mod view;
+
+use constraints::rows;
 use game::Position;
-use plan::Constraint;
 use plan::Plan;
-use plan::entries;
 use plan::letters;
 use tree::Node;
 ghost use mathlib.Core.Path.{_≡_};
 ghost use mathlib.Core.Bool.{true};
-ghost use Rattle.network.specs.Game.{Legal};
+ghost use Prim.Native.Nat.{ℕ, _≤_, _<_};
+ghost use lib.ListN.{getD};
+ghost use Rattle.network.specs.Mask.{bit};
+ghost use Rattle.network.specs.Network.{slotsIn};
+ghost use Rattle.network.specs.Game.{Move, Legal};
 ghost use Rattle.network.specs.FirstMoves.{CanBeWon, Winning};
 ghost use Rattle.plan.specs.Plan.{networkOf};
 ghost use Rattle.plan.specs.WellFormed.{WellFormed};
+ghost use Rattle.constraints.specs.Rows.{rowsSay};
 ghost use Rattle.tree.specs.Trees.{moveOf};
 ghost use Rattle.game.specs.Position.{stateOf, Proper};
-ghost use Rattle.pruning.specs.Pruning.{unknownAt, brokenAt};
 
-// The letters that only points still left disclose: conditions not yet heard, decisions not yet made.
-fn unknown(plan: Plan, left: u8) -> u8
-    ensures { λ r. ⌜ r ≡ unknownAt plan left ⌝ }
+// Whether none of these is 255, which stands for no slot in a table.
+fn are_slots(slots: [u8; 8]) -> bool
+    ensures { λ r. ⌜ (r ≡ true → (x : ℕ) → x < 8 → getD slots x 0 < 255) ⌝ }
 {
-    letters::heard(plan, left) | letters::settled(plan, left)
+    let mut x: usize = 0;
+    while x < 8 {
+        if 255 <= slots[x] {
+            return false;
+        }
+        x += 1;
+    }
+    true
 }
 
-// Whether a constraint is broken, whatever comes: both of its points are performed, its letters are known, and it is not kept.
-fn broken(c: Constraint, at: Position, unknown: u8) -> bool
-    ensures { λ r. ⌜ r ≡ brokenAt at unknown c ⌝ }
+// The test of a state, by the rows of the plan's constraints.
+fn lost_by(rows: &[u16; 320], plan: Plan, at: Position) -> bool
+    ensures { λ r. ⌜ (rowsSay (plan .constraints) (now (rows .entry)) ≡ networkOf plan .constraints → WellFormed plan → Proper plan at
+        → r ≡ true → ¬ CanBeWon (networkOf plan) (stateOf plan at)) ⌝ }
 {
-    let slots = at.slots;
-    !masks::has(at.left, c.from)
-        & !masks::has(at.left, c.to)
-        & (c.need & unknown == 0)
-        & !constraints::constraint_kept(c, slots, at.values)
+    let v = view::view(plan, at);
+    let cap = v.cap;
+    if are_slots(cap) {
+        return table::hopeless(v, rows);
+    }
+    false
 }
 
 // The test of a state: of a well-formed plan and a proper position it says lost only where the remaining game cannot be won. Where it does
@@ -38,17 +52,8 @@ fn broken(c: Constraint, at: Position, unknown: u8) -> bool
 pub fn lost(plan: Plan, at: Position) -> bool
     ensures { λ r. ⌜ (WellFormed plan → Proper plan at → r ≡ true → ¬ CanBeWon (networkOf plan) (stateOf plan at)) ⌝ }
 {
-    let waiting = unknown(plan, at.left);
-    let n = plan.constraints;
-    let mut j: u8 = 0;
-    while j < n {
-        let c = entries::constraint_at(plan, j);
-        if broken(c, at, waiting) {
-            return true;
-        }
-        j += 1;
-    }
-    false
+    let rows = rows::rows_of(plan);
+    lost_by(&rows, plan, at)
 }
 
 // Whether the test says lost after some outcome of a legal move: then the move does not win.
@@ -56,15 +61,30 @@ pub fn move_lost(plan: Plan, at: Position, v: Node) -> bool
     ensures { λ r. ⌜ (WellFormed plan → Proper plan at → Legal (networkOf plan) (stateOf plan at) (moveOf v) → r ≡ true
         → ¬ Winning (networkOf plan) (stateOf plan at) (moveOf v)) ⌝ }
 {
+    let rows = rows::rows_of(plan);
     let heard = letters::heard(plan, v.points);
     let outcomes = masks::submasks(heard);
     let mut k: u16 = 0;
     while k < outcomes {
         let next = game::after(at, v, masks::numbered(heard, k));
-        if lost(plan, next) {
+        if lost_by(&rows, plan, next) {
             return true;
         }
         k += 1;
     }
     false
+}
+
+// For each point a slot before which no winning move performs it.
+pub fn soonest(plan: Plan, at: Position) -> [u8; 8]
+    ensures { λ r. ⌜ (WellFormed plan → Proper plan at → (m : Move) → Winning (networkOf plan) (stateOf plan at) m → (x : ℕ)
+        → bit (m .points) x ≡ true → slotsIn r x ≤ m .slot) ⌝ }
+{
+    let v = view::view(plan, at);
+    let cap = v.cap;
+    if are_slots(cap) {
+        let rows = rows::rows_of(plan);
+        return table::soonest(v, &rows);
+    }
+    [0; 8]
 }

@@ -4,7 +4,6 @@ use plan::Constraint;
 use plan::Letter;
 use plan::Plan;
 use plan::bytes;
-use plan::entries;
 ghost use mathlib.Core.Path.{_≡_};
 ghost use Prim.Native.Nat.{_+_, _*_, _≤_};
 ghost use lib.ListN.{length};
@@ -102,7 +101,7 @@ fn put_letters(out: &mut [u8], p: Plan)
     let mut at: usize = 4;
     let mut i: u8 = 0;
     while i < 6 {
-        put_letter(out, at, entries::letter_at(p, i));
+        put_letter(out, at, p.letter[i as usize]);
         at += 2;
         i += 1;
     }
@@ -124,7 +123,7 @@ fn put_constraints(out: &mut [u8], p: Plan)
     let mut at: usize = 16;
     let mut j: u8 = 0;
     while j < 64 {
-        put_constraint(out, at, entries::constraint_at(p, j));
+        put_constraint(out, at, p.constraint[j as usize]);
         at += 6;
         j += 1;
     }

@@ -42,7 +42,10 @@ AgentAt p at = AgentFinds (networkOf p) (stateOf p at)
 abbrev pub WorldAt : Plan → Position → Node → Turn → List ℕ → List ℕ → Type 0
 WorldAt p at v = WorldFinds (networkOf p) (stateOf p at) (moveOf v)
 
-abbrev pub Trying : Plan → Position → List ℕ → List ℕ → Step → Type 0
+abbrev pub WinsTimely : Plan → Position → List ℕ → Type 0
+WinsTimely p at = turns.WinsTimely (networkOf p) (stateOf p at)
+
+abbrev pub Trying : Plan → Position → List ℕ → List ℕ → List ℕ → Step → Type 0
 Trying p at = turns.Trying (networkOf p) (stateOf p at)
 
 abbrev pub Answering : Plan → Position → Node → List ℕ → List ℕ → ℕ → ℕ → Type 0
@@ -67,15 +70,17 @@ module _ (p : Plan) (wf : WellFormed p) (at : Position) (ok : Proper p at) where
       pub ends-lost : b ≡ false → AgentAt p at turn.Lost xs xs
       ends-lost z = turns.ends-lost (networkOf p) s xs fits (over-is-zero p wf at ok .0 end) (sym (said ∙ kept-is p wf at) ∙ z)
 
-    pub first-tried : (next : Step) → next ≡ firstStep p at → Trying p at xs xs next
-    first-tried next e = turns.trying-start (networkOf p) s xs fits next (rw e (first-step-is p wf at ok))
+    pub first-tried :
+        (soonest : List ℕ) → WinsTimely p at soonest → (next : Step) → next ≡ firstStep p at soonest → Trying p at soonest xs xs next
+    first-tried soonest early next e =
+        turns.trying-start (networkOf p) s soonest early xs fits next (rw e (first-step-is p wf at ok soonest))
 
-    module _ (ys : List ℕ) (same : length ys ≡ length xs) where
-      pub tried-all : ¬ (at .left ≡ 0) → Trying p at xs ys step.End → AgentAt p at turn.Lost xs ys
-      tried-all some t = turns.tried-all (networkOf p) s xs ys t (over-is-zero p wf at ok .1 some)
+    module _ (soonest ys : List ℕ) (same : length ys ≡ length xs) where
+      pub tried-all : ¬ (at .left ≡ 0) → Trying p at soonest xs ys step.End → AgentAt p at turn.Lost xs ys
+      tried-all some t = turns.tried-all (networkOf p) s soonest xs ys t (over-is-zero p wf at ok .1 some)
 
       -- the move at hand, and behind its three bytes the part that is lent to the world
-      module _ (v : Node) (t : Trying p at xs ys (step.Try v)) where
+      module _ (v : Node) (t : Trying p at soonest xs ys (step.Try v)) where
         pub legal : Legal (networkOf p) s (moveOf v)
         legal = t .ahead .0
 
@@ -93,16 +98,18 @@ module _ (p : Plan) (wf : WellFormed p) (at : Position) (ok : Proper p at) where
               let f = move-fits in
               subst (AgentAt p at (turn.Won (n + 1)) xs)
               (sym (e ∙ rw (comes-back 3 ys es (omega arith)) (node-put ys es v (omega arith))))
-              (turns.tried-wins (networkOf p) s xs ys (is-network p wf) v t (inside-is p wf at ok) n es
+              (turns.tried-wins (networkOf p) s soonest xs ys (is-network p wf) v t (inside-is p wf at ok) n es
               (subst (λ (us : List ℕ). WorldAt p at v (turn.Won n) us es) (rest-is 3 ys) w))
 
           pub tried-next :
-              WorldAt p at v turn.Lost (rest 3 ys) es → (next : Step) → next ≡ nextStep p at v → Trying p at xs (back 3 ys es) next
-          tried-next w next e =
+              WinsTimely p at soonest → WorldAt p at v turn.Lost (rest 3 ys) es → (next : Step) → next ≡ nextStep p at soonest v →
+              Trying p at soonest xs (back 3 ys es) next
+          tried-next early w next e =
               let f = move-fits in
               rw (comes-back 3 ys es (omega arith))
-              (turns.tried-next (networkOf p) s xs ys (is-network p wf) v t (omega arith) es
-              (subst (λ (us : List ℕ). WorldAt p at v turn.Lost us es) (rest-is 3 ys) w) next (rw e (next-step-is p wf at ok v legal)))
+              (turns.tried-next (networkOf p) s soonest xs ys (is-network p wf) v t early (omega arith) es
+              (subst (λ (us : List ℕ). WorldAt p at v turn.Lost us es) (rest-is 3 ys) w)
+              next (rw e (next-step-is p wf at ok soonest v legal (t .ahead .1))))
 
           pub count-fits : (n : ℕ) → WorldAt p at v (turn.Won n) (rest 3 ys) es → n < length ys
           count-fits n w =

@@ -28,7 +28,7 @@ use Rattle.tree.specs.Trees.{moveOf, treeBytes}
 use Rattle.tree.proofs.TreeLaws.{tree-length, node-bytes, same-bytes, same-nodes}
 use Rattle.moves.specs.declared.Step.{Step}
 use Rattle.moves.specs.declared.Step.the-variants as step
-use Rattle.moves.specs.Moves.{FirstOf}
+use Rattle.moves.specs.Moves.{FirstOf, Timely}
 use Rattle.turns.specs.declared.Turn.the-variants as turn
 use Rattle.turns.specs.Turns.{most, mostBehind, Leaves, Finds, firstTreeAt, AgentFinds, treeBehind, WorldFinds}
 use Rattle.turns.proofs.BufferLaws.{untouched, given-up, front-is, behind-front}
@@ -97,30 +97,37 @@ module _ (net : Network) (s : State) where
 
   -- ---- the agent tries moves
 
+  -- no winning move performs a point before its soonest slot, so a step over moves that do passes no winning one
+  abbrev pub WinsTimely : List ℕ → Type 0
+  WinsTimely soonest = (k : Move) → Winning net s k → Timely soonest k
+
   -- no move before the one at hand wins; at the end none does
-  abbrev pub Ahead : Step → Type 0
-  Ahead step.End = (k : Move) → ¬ Winning net s k
-  Ahead (step.Try v) = Legal net s (moveOf v) × ((k : Move) → Winning net s k → ¬ Before k (moveOf v))
+  abbrev pub Ahead : List ℕ → Step → Type 0
+  Ahead soonest step.End = (k : Move) → ¬ Winning net s k
+  Ahead soonest (step.Try v) =
+      Legal net s (moveOf v) × Timely soonest (moveOf v) × ((k : Move) → Winning net s k → ¬ Before k (moveOf v))
 
-  pub record Trying (xs ys : List ℕ) (next : Step) : Type 0 where
+  pub record Trying (soonest xs ys : List ℕ) (next : Step) : Type 0 where
     pub left-so-far : Leaves [] (most net s) xs ys
-    pub ahead : Ahead next
+    pub ahead : Ahead soonest next
 
-  first-ahead : (next : Step) → FirstOf net s (λ k. Unit {0}) next → Ahead next
+  first-ahead : (soonest : List ℕ) → WinsTimely soonest → (next : Step) → FirstOf net s (λ k. Timely soonest k) next → Ahead soonest next
   unfolding FirstOf
-  first-ahead step.End f = λ k w. f k (w .legal) tt
-  first-ahead (step.Try v) f = (f .0, λ k w. f .2 k (w .legal) tt)
+  first-ahead soonest early step.End f = λ k w. f k (w .legal) (early k w)
+  first-ahead soonest early (step.Try v) f = (f .0, f .1, λ k w. f .2 k (w .legal) (early k w))
 
   pub trying-start :
-      (xs : List ℕ) → 3 * most net s ≤ length xs → (next : Step) → FirstOf net s (λ k. Unit {0}) next → Trying xs xs next
-  trying-start xs fits next f = record { left-so-far = untouched (most net s) xs fits; ahead = first-ahead next f }
+      (soonest : List ℕ) → WinsTimely soonest → (xs : List ℕ) → 3 * most net s ≤ length xs → (next : Step) →
+      FirstOf net s (λ k. Timely soonest k) next → Trying soonest xs xs next
+  trying-start soonest early xs fits next f =
+      record { left-so-far = untouched (most net s) xs fits; ahead = first-ahead soonest early next f }
 
-  module _ (xs ys : List ℕ) where
-    pub tried-all : Trying xs ys step.End → over net s ≡ false → AgentFinds net s turn.Lost xs ys
+  module _ (soonest xs ys : List ℕ) where
+    pub tried-all : Trying soonest xs ys step.End → over net s ≡ false → AgentFinds net s turn.Lost xs ys
     unfolding Finds
     tried-all t on = (none-wins net s on (t .ahead), t .left-so-far)
 
-    module _ (wf : IsNetwork net) (v : Node) (t : Trying xs ys (step.Try v)) where
+    module _ (wf : IsNetwork net) (v : Node) (t : Trying soonest xs ys (step.Try v)) where
       abbrev m : Move
       m = moveOf v
 
@@ -141,36 +148,38 @@ module _ (net : Network) (s : State) where
           AgentFinds net s (turn.Won (n + 1)) xs (nodeBytes v ++ es)
       unfolding Finds nodes
       tried-wins in-s n es w =
-          let same = same-tree net s in-s m (w .0) (t .ahead .1) in
+          let same = same-tree net s in-s m (w .0) (t .ahead .2) in
           let counted = w .1 in
           let all-nodes = same-nodes net _ _ same in
           let all-bytes = same-bytes net _ _ same ∙ node-bytes net m _ in (
-            wins-won net s in-s m (w .0) (t .ahead .1),
+            wins-won net s in-s m (w .0) (t .ahead .2),
             omega arith,
             subst (λ (bs : List ℕ). Leaves bs (most net s) xs (nodeBytes v ++ es)) (sym all-bytes)
                 (behind-three (nodeBytes v) _ es refl (w .2)),
           )
 
-      -- it does not: a winning move comes behind it, so none stands before the next one
+      -- it does not: a winning move comes behind it and is timely, so none stands before the next one
       behind : ¬ Winning net s m → (k : Move) → Winning net s k → Before m k
       behind fails k w =
           ⊎-elim (λ b. b)
-          (⊎-elim (λ e. absurd (fails (subst (Winning net s) (sym e) w))) (λ b. absurd (t .ahead .1 k w b)))
+          (⊎-elim (λ e. absurd (fails (subst (Winning net s) (sym e) w))) (λ b. absurd (t .ahead .2 k w b)))
           (before-cases m k)
 
-      next-ahead : ¬ Winning net s m → (next : Step) → FirstOf net s (Before m) next → Ahead next
+      next-ahead :
+          WinsTimely soonest → ¬ Winning net s m → (next : Step) → FirstOf net s (λ k. Timely soonest k × Before m k) next →
+          Ahead soonest next
       unfolding FirstOf
-      next-ahead fails step.End f = λ k w. f k (w .legal) (behind fails k w)
-      next-ahead fails (step.Try u) f = (f .0, λ k w. f .2 k (w .legal) (behind fails k w))
+      next-ahead early fails step.End f = λ k w. f k (w .legal) (early k w, behind fails k w)
+      next-ahead early fails (step.Try u) f = (f .0, f .1 .0, λ k w. f .2 k (w .legal) (early k w, behind fails k w))
 
       pub tried-next :
-          3 ≤ length ys → (es : List ℕ) → WorldFinds net s m turn.Lost (drop 3 ys) es → (next : Step) → FirstOf net s (Before m) next →
-          Trying xs (take 3 ys ++ es) next
+          WinsTimely soonest → 3 ≤ length ys → (es : List ℕ) → WorldFinds net s m turn.Lost (drop 3 ys) es → (next : Step) →
+          FirstOf net s (λ k. Timely soonest k × Before m k) next → Trying soonest xs (take 3 ys ++ es) next
       unfolding Finds
-      tried-next long es w next f =
+      tried-next early long es w next f =
           record {
             left-so-far = given-up _ (most net s) xs _ (behind-three (take 3 ys) [] es (length-take-le 3 ys long) (w .1));
-            ahead = next-ahead (w .0) next f;
+            ahead = next-ahead early (w .0) next f;
           }
 
   -- ---- the world tries outcomes

@@ -21,6 +21,7 @@ pub enum Turn {
 }
 
 // The agent's turn: moves are tried in their order, and the first from which the game can be won is written, its subtrees directly behind.
+// Moves that perform a point before its soonest slot do not win, and are left out.
 pub fn agent(plan: Plan, at: Position, buf: &mut [u8]) -> Turn
     requires { ⌜ WellFormed plan × Proper plan at × (3 * most (networkOf plan) (stateOf plan at) ≤ length (now buf)) ⌝ }
     ensures { λ r. ⌜ AgentFinds (networkOf plan) (stateOf plan at) r (now (buf .entry)) (now (buf .exit)) ⌝ }
@@ -32,7 +33,8 @@ pub fn agent(plan: Plan, at: Position, buf: &mut [u8]) -> Turn
         }
         return Turn::Lost;
     }
-    let mut step = moves::first_move(plan, at);
+    let soonest = pruning::soonest(plan, at);
+    let mut step = moves::first_move(plan, at, soonest);
     loop {
         let Step::Try(v) = step else {
             return Turn::Lost;
@@ -43,7 +45,7 @@ pub fn agent(plan: Plan, at: Position, buf: &mut [u8]) -> Turn
             tree::put_node(buf, 0, v);
             return Turn::Won(nodes);
         }
-        step = moves::next_move(plan, at, v);
+        step = moves::next_move(plan, at, soonest, v);
     }
 }
 

@@ -2,18 +2,20 @@
 pub mod screen;
 
 use constraints::raising;
+use constraints::rows;
 use plan::Judged;
 use plan::Plan;
 use plan::Refusal;
 ghost use mathlib.Core.Path.{_≡_};
 ghost use Prim.Native.Nat.{_≤_};
-ghost use lib.Dec.{eqb};
+ghost use lib.Dec.{leb};
 ghost use lib.ListN.{replicate};
 ghost use Rattle.network.specs.Mask.{bit, allBelow};
-ghost use Rattle.network.specs.Network.{slotsIn};
+ghost use Rattle.network.specs.Network.{Network, slotsIn};
 ghost use Rattle.plan.specs.Answer.{fine};
 ghost use Rattle.plan.specs.Plan.{networkOf};
-ghost use Rattle.verdict.specs.Verdict.{leastSlots, withinHorizon, saying, verdictAnswer, verdictOf, leastSchedule};
+ghost use Rattle.constraints.specs.Rows.{rowsSay};
+ghost use Rattle.verdict.specs.Verdict.{leastSlots, saying, verdictAnswer, verdictOf, leastSchedule};
 
 // The least schedule, document 01's "none", or why the call is refused.
 pub enum Found {
@@ -28,42 +30,26 @@ pub struct Verdict {
     pub slots: [u8; 8],
 }
 
-// Whether all eight slots are the same.
-fn same(a: [u8; 8], b: [u8; 8]) -> bool
-    ensures { λ r. ⌜ r ≡ allBelow 8 (λ x. eqb (slotsIn a x) (slotsIn b x)) ⌝ }
-{
-    let mut x: u8 = 0;
-    while x < 8 {
-        if a[x as usize] != b[x as usize] {
-            return false;
-        }
-        x += 1;
-    }
-    true
-}
-
-// The slots at which the raise rests, from all zeros. What can still rise falls with each round.
-fn least_slots(plan: Plan, values: u8, cap: u8) -> [u8; 8]
-    ensures { λ r. ⌜ r ≡ leastSlots cap (networkOf plan) (bit values) ⌝ }
+// The slots at which the raise rests, from all zeros. What can still rise falls with each round. Only its constraints matter of a network.
+fn least_slots(rows: &[u16; 320], count: u8, values: u8, cap: u8) -> [u8; 8]
+    ensures { λ r. ⌜ ((net : Network) → net .constraints ≡ rowsSay count (now (rows .entry)) → r ≡ leastSlots cap net (bit values)) ⌝ }
 {
     let mut slots = [0u8; 8];
     loop {
-        let next = raising::raise(plan, slots, values, cap);
-        if same(slots, next) {
+        let next = raising::raise(rows, count, slots, values, cap);
+        if raising::same_slots(slots, next) {
             return slots;
         }
         slots = next;
     }
 }
 
-// Whether no point stands past the horizon.
-fn within_horizon(plan: Plan, slots: [u8; 8]) -> bool
-    ensures { λ r. ⌜ r ≡ withinHorizon (networkOf plan) slots ⌝ }
+// Whether none of this many points stands past the horizon.
+fn within_horizon(points: u8, horizon: u8, slots: [u8; 8]) -> bool
+    ensures { λ r. ⌜ r ≡ allBelow points (λ x. leb (slotsIn slots x) horizon) ⌝ }
 {
-    let n = plan.points;
-    let horizon = plan.horizon;
     let mut x: u8 = 0;
-    while x < n {
+    while x < points {
         if horizon < constraints::slot_of(slots, x) {
             return false;
         }
@@ -84,11 +70,12 @@ fn without_schedule(found: Found) -> Verdict
 
 // The verdict of a plan that was judged, under a setting that was.
 fn decide(plan: Plan, values: u8) -> Verdict
-    requires { ⌜ plan .horizon ≤ 63 ⌝ }
+    requires { ⌜ (plan .horizon ≤ 63) × (plan .constraints ≤ 64) ⌝ }
     ensures { λ r. ⌜ verdictAnswer r ≡ fine (verdictOf (networkOf plan) (bit values)) ⌝ }
 {
-    let slots = least_slots(plan, values, plan.horizon + 1);
-    if within_horizon(plan, slots) {
+    let rows = rows::rows_of(plan);
+    let slots = least_slots(&rows, plan.constraints, values, plan.horizon + 1);
+    if within_horizon(plan.points, plan.horizon, slots) {
         return Verdict {
             found: Found::Least,
             slots: slots,

@@ -1,11 +1,13 @@
 // The screen: whether every setting of all letters has a schedule.
+use constraints::rows;
 use plan::Judged;
 use plan::Plan;
 use plan::Refusal;
 ghost use mathlib.Core.Path.{_≡_};
 ghost use Prim.Native.Nat.{_≤_};
 ghost use Rattle.network.specs.Mask.{bit};
-ghost use Rattle.plan.specs.Plan.{networkOf};
+ghost use Rattle.network.specs.Network.{Network};
+ghost use Rattle.constraints.specs.Rows.{rowsSay};
 ghost use Rattle.verdict.specs.Verdict.{verdictOf, screenAnswer, passes, screened};
 
 // Whether a plan passes the screen, or why the call is refused.
@@ -15,23 +17,26 @@ pub enum Screened {
     Refused(Refusal),
 }
 
-// Whether a plan that was judged has a schedule where the letters of the mask `values` are true and the others false.
-fn schedulable(plan: Plan, values: u8) -> bool
-    requires { ⌜ plan .horizon ≤ 63 ⌝ }
-    ensures { λ r. ⌜ r ≡ verdictOf (networkOf plan) (bit values) .scheduled ⌝ }
+// Whether a network with this horizon, these points and the constraints in the rows has a schedule where the letters of the mask `values`
+// are true and the others false.
+fn schedulable(rows: &[u16; 320], count: u8, points: u8, horizon: u8, values: u8) -> bool
+    requires { ⌜ horizon ≤ 63 ⌝ }
+    ensures { λ r. ⌜ ((net : Network) → net .horizon ≡ horizon → net .points ≡ points → net .constraints ≡ rowsSay count (now (rows .entry)) → r ≡ verdictOf net (bit values) .scheduled) ⌝ }
 {
-    crate::within_horizon(plan, crate::least_slots(plan, values, plan.horizon + 1))
+    let slots = crate::least_slots(rows, count, values, horizon + 1);
+    crate::within_horizon(points, horizon, slots)
 }
 
-// Whether each of the settings of a plan that was judged has a schedule.
+// Whether each of the settings of a plan that was judged has a schedule. The rows are made once for all of them.
 fn all_schedulable(plan: Plan) -> bool
-    requires { ⌜ (plan .horizon ≤ 63) × (plan .letters ≤ 6) ⌝ }
+    requires { ⌜ (plan .horizon ≤ 63) × (plan .letters ≤ 6) × (plan .constraints ≤ 64) ⌝ }
     ensures { λ r. ⌜ r ≡ passes plan ⌝ }
 {
+    let rows = rows::rows_of(plan);
     let settings = 1u8 << plan.letters;
     let mut m: u8 = 0;
     while m < settings {
-        if !schedulable(plan, m) {
+        if !schedulable(&rows, plan.constraints, plan.points, plan.horizon, m) {
             return false;
         }
         m += 1;

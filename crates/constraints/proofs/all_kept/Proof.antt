@@ -5,14 +5,15 @@ use mathlib.Core.List.{List}
 use Prim.Native.Nat.{ℕ, _-_, _≤_}
 use native.Mathlib.Omega.{arith}
 use borrow.Author.Needs.{needs}
+use lib.ListN.{length, length-map}
 use Rattle.network.specs.Network.{slotsIn}
 use Rattle.network.specs.Mask.{bit, allBelow}
-use Rattle.network.proofs.Booleans.{not-true, not-false}
+use Rattle.network.proofs.Booleans.{denied, granted}
 use Rattle.network.proofs.BelowLaws.{all-start, all-next, all-fails}
 use Rattle.plan.specs.declared.Plan.{Plan}
 use Rattle.plan.specs.Plan.{constraintAt}
 use Rattle.constraints.specs.Constraints.{keepsOne}
-use Rattle.constraints.proofs.ConstraintLaws.{keeps-all}
+use Rattle.constraints.proofs.ConstraintLaws.{keeps-all, keeps-past}
 use Rattle.constraints.proofs.all_kept.Statement.{statement}
 use Rattle.constraints.proofs.all_kept.Tie as tie
 
@@ -20,48 +21,62 @@ abbrev kept : Plan → List ℕ → ℕ → ℕ → Bool
 kept plan slots values j = keepsOne (slotsIn slots) (bit values) (constraintAt plan j)
 
 abbrev Inv-loop : tie.InvT-loop
-Inv-loop plan slots values n j₀ j = (j ≤ n) × (allBelow j (kept plan slots values) ≡ true)
+Inv-loop slots values plan n j₀ j = (j ≤ n) × (allBelow j (kept plan slots values) ≡ true)
 
 abbrev μ-loop : tie.MeasureT-loop
-μ-loop plan slots values n j₀ j = n - j
+μ-loop slots values plan n j₀ j = n - j
 
 loop-holds : tie.Need-loop-holds Inv-loop μ-loop
-loop-holds c = (omega arith, all-start (kept (c .args .plan) (c .args .slots) (c .args .values)))
+loop-holds c = (omega arith, all-start (kept (c .args .t1) (c .args .slots) (c .args .values)))
 
-constraint-at-requires : tie.Need-constraint-at-requires Inv-loop μ-loop
-constraint-at-requires c κs = search needs
+-- the array's length, as its type says
+long : (c : tie.Start Inv-loop μ-loop) → length (c .args .t1 .constraint) ≡ 64
+long c = sym (length-map (c .args .t1 .constraint) _) ∙ c .good .0 .1 .1 .1 .1 .1 .1 .1 .0 .1 .0 .1
+
+returns : tie.Need-returns Inv-loop μ-loop
+returns c =
+    let s = c .before .before .before .args in
+    let e = long (c .before .before .before) in
+    sym (keeps-past (s .t1) (slotsIn (s .slots)) (bit (s .values)) (c .before .before .loop .j) (omega arith) (c .before .before .loop .inv .1))
+
+cast-c : tie.Need-cast-c Inv-loop μ-loop
+cast-c c = search needs
+
+mul-c : tie.Need-mul-c Inv-loop μ-loop
+mul-c c = search needs
+
+element-copy-out-c : tie.Need-element-copy-out-c Inv-loop μ-loop
+element-copy-out-c c = search needs
 
 constraint-kept-requires : tie.Need-constraint-kept-requires Inv-loop μ-loop
 constraint-kept-requires c κs = search needs
 
-returns : tie.Need-returns Inv-loop μ-loop
-returns c =
-    let s = c .before .before .before .before .before .args in
-    let lost = not-true (c .before .constraint-kept .result) (c .if1 .taken) in
-    sym (keeps-all (s .plan) (slotsIn (s .slots)) (bit (s .values))
-    ∙ all-fails (kept (s .plan) (s .slots) (s .values)) (s .plan .constraints) (c .before .before .before .before .loop .j) (omega arith)
-    (rw (← c .before .before .constraint-at .ensures, ← c .before .constraint-kept .ensures) lost))
+returns-2 : tie.Need-returns-2 Inv-loop μ-loop
+returns-2 c =
+    let s = c .before .before .before .before .before .before .args in
+    sym (keeps-all (s .t1) (slotsIn (s .slots)) (bit (s .values))
+    ∙ all-fails (kept (s .t1) (s .slots) (s .values)) (s .t1 .constraints) (c .before .before .before .before .before .loop .j) (omega arith)
+    (denied (c .before .constraint-kept .ensures) (c .if2 .taken)))
 
 add-j : tie.Need-add-j Inv-loop μ-loop
-add-j c = record { fits = omega arith }
+add-j c = search needs
 
 loop-less : tie.Need-loop-less Inv-loop μ-loop
-loop-less c = omega arith
+loop-less c = search needs
 
 loop-again : tie.Need-loop-again Inv-loop μ-loop
 loop-again c =
-    let s = c .before .before .before .before .before .args in
-    let held = not-false (c .before .constraint-kept .result) (c .if1 .left) in (
-      omega arith,
-      all-next (kept (s .plan) (s .slots) (s .values)) (c .before .before .before .before .loop .j) (c .before .before .before .before .loop .inv .1)
-          (rw (← c .before .before .constraint-at .ensures, ← c .before .constraint-kept .ensures) held),
+    let s = c .before .before .before .before .before .before .args in (
+      search needs,
+      all-next (kept (s .t1) (s .slots) (s .values)) (c .before .before .before .before .before .loop .j) (c .before .before .before .before .before .loop .inv .1)
+          (granted (c .before .constraint-kept .ensures) (c .if2 .left)),
     )
 
-returns-2 : tie.Need-returns-2 Inv-loop μ-loop
-returns-2 c =
+returns-3 : tie.Need-returns-3 Inv-loop μ-loop
+returns-3 c =
     let s = c .before .before .args in
-    let e : c .before .loop .j ≡ s .plan .constraints = omega arith in
-    sym (keeps-all (s .plan) (slotsIn (s .slots)) (bit (s .values)) ∙ rw e at (c .before .loop .inv .1))
+    let e : c .before .loop .j ≡ s .t1 .constraints = omega arith in
+    sym (keeps-all (s .t1) (slotsIn (s .slots)) (bit (s .values)) ∙ rw e at (c .before .loop .inv .1))
 
 pub all-kept-spec : {M : Type 1} → statement M
 all-kept-spec =
@@ -70,10 +85,13 @@ all-kept-spec =
     Inv-loop
     μ-loop
     loop-holds
-    constraint-at-requires
-    constraint-kept-requires
     returns
+    cast-c
+    mul-c
+    element-copy-out-c
+    constraint-kept-requires
+    returns-2
     add-j
     loop-less
     loop-again
-    returns-2)
+    returns-3)

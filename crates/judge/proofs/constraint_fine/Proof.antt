@@ -1,22 +1,14 @@
--- Each test is what its function ensures. Only the checker need believe this file.
+-- By the plan's points and letters. Only the checker need believe this file.
+use mathlib.Core.Path.{refl}
 use borrow.Author.Needs.{needs}
-use Rattle.judge.specs.Judge.{constraintFine}
 use Rattle.judge.proofs.constraint_fine.Statement.{statement}
 use Rattle.judge.proofs.constraint_fine.Tie as tie
 
-bound-fine-requires : tie.Need-bound-fine-requires
-bound-fine-requires c κs = search needs
-
-among-requires : tie.Need-among-requires
-among-requires c κs = search needs
-
-subset-requires : tie.Need-subset-requires
-subset-requires c κs = search needs
+constraint-over-requires : tie.Need-constraint-over-requires
+constraint-over-requires c κs = search needs
 
 returns : tie.Need-returns
-unfolding constraintFine
-returns c = cc
+returns c = c .constraint-over .ensures (c .before .args .plan) refl refl
 
 pub constraint-fine-spec : {M : Type 1} → statement M
-constraint-fine-spec =
-    tie.close (tie.spec bound-fine-requires among-requires subset-requires returns)
+constraint-fine-spec = tie.close (tie.spec constraint-over-requires returns)

@@ -1,5 +1,5 @@
 -- The invariant: the entries passed are fine. Only the checker need believe this file.
-use mathlib.Core.Path.{_≡_, sym}
+use mathlib.Core.Path.{_≡_, refl, sym}
 use mathlib.Core.Bool.{true}
 use Prim.Native.Nat.{_≤_, _-_}
 use native.Mathlib.Omega.{arith}
@@ -21,14 +21,26 @@ loop-holds : tie.Need-loop-holds Inv-loop μ-loop
 unfolding allBelow
 loop-holds c = search needs
 
+cast-c : tie.Need-cast-c Inv-loop μ-loop
+cast-c c = search needs
+
+mul-c : tie.Need-mul-c Inv-loop μ-loop
+mul-c c = search needs
+
+element-copy-out-c : tie.Need-element-copy-out-c Inv-loop μ-loop
+element-copy-out-c c = search needs
+
 constraint-entry-requires : tie.Need-constraint-entry-requires Inv-loop μ-loop
 constraint-entry-requires c κs = search needs
 
+-- what is said of the entry is said of the plan
+said : (c : tie.After-constraint-entry Inv-loop μ-loop) → c .constraint-entry .result ≡ constraintEntry (c .before .before .before .before .args .t1) (c .before .before .before .loop .j)
+unfolding constraintEntry
+said c = c .constraint-entry .ensures (c .before .before .before .before .args .t1) refl refl
+
 returns : tie.Need-returns Inv-loop μ-loop
 unfolding constraintsFine
-returns c =
-    let l = c .before .before .before .loop in
-    sym (all-fails _ 64 (l .j) (search needs) (denied (c .before .constraint-entry .ensures) (c .if1 .taken)))
+returns c = sym (all-fails _ 64 (c .before .before .before .before .loop .j) (search needs) (denied (said (c .before)) (c .if1 .taken)))
 
 add-j : tie.Need-add-j Inv-loop μ-loop
 add-j c = search needs
@@ -38,8 +50,8 @@ loop-less c = search needs
 
 loop-again : tie.Need-loop-again Inv-loop μ-loop
 loop-again c =
-    let l = c .before .before .before .loop in
-    (search needs, all-next _ (l .j) (l .inv .1) (granted (c .before .constraint-entry .ensures) (c .if1 .left)))
+    let l = c .before .before .before .before .loop in
+    (search needs, all-next _ (l .j) (l .inv .1) (granted (said (c .before)) (c .if1 .left)))
 
 returns-2 : tie.Need-returns-2 Inv-loop μ-loop
 unfolding constraintsFine
@@ -55,6 +67,9 @@ constraints-fine-spec =
     Inv-loop
     μ-loop
     loop-holds
+    cast-c
+    mul-c
+    element-copy-out-c
     constraint-entry-requires
     returns
     add-j

@@ -11,7 +11,7 @@ from-slot-requires c κs = search needs
 returns : tie.Need-returns
 returns c =
     let a = c .before .args in
-    let said : c .from-slot .result ≡ fromSlot (a .plan) (a .at) (a .at .earliest) = c .from-slot .ensures in
+    let said : c .from-slot .result ≡ fromSlot (a .plan) (a .at) (a .soonest) (a .at .earliest) = c .from-slot .ensures in
     said
 
 pub first-move-spec : {M : Type 1} → statement M

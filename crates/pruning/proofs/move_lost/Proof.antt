@@ -12,32 +12,35 @@ use Rattle.plan.specs.Plan.{networkOf}
 use Rattle.plan.specs.Letters.{heardBy}
 use Rattle.game.specs.Position.{stateOf, Proper, positionAfter}
 use Rattle.game.proofs.NextLaws.{next, next-proper}
-use Rattle.pruning.proofs.BrokenLaws.{move-wins-nothing}
+use Rattle.pruning.proofs.MoveLaws.{move-wins-nothing}
 use Rattle.pruning.proofs.move_lost.Statement.{statement}
 use Rattle.pruning.proofs.move_lost.Tie as tie
 
 -- nothing is said of the outcomes passed
 abbrev Inv-loop : tie.InvT-loop
-Inv-loop plan at v heard outcomes k₀ k = Unit {0}
+Inv-loop plan at v rows heard outcomes k₀ k = Unit {0}
 
 abbrev μ-loop : tie.MeasureT-loop
-μ-loop plan at v heard outcomes k₀ k = outcomes - k
+μ-loop plan at v rows heard outcomes k₀ k = outcomes - k
 
 long : (c : tie.Start Inv-loop μ-loop) → length (c .args .at .slots) ≡ 8
 long c = search needs
 
 -- the position after outcome k
 is-next : (c : tie.After-after Inv-loop μ-loop) →
-    let a = c .before .before .before .before .before .before .args in
+    let a = c .before .before .before .before .before .before .before .args in
     c .after .result ≡ next (a .plan) (a .at) (a .v) (c .before .before .before .loop .k)
 is-next c =
-    let a = c .before .before .before .before .before .before .args in
+    let a = c .before .before .before .before .before .before .before .args in
     let k = c .before .before .before .loop .k in
     let letters = c .before .before .before .before .before .heard in
     let outcome = c .before .numbered in
     let heard : letters .result ≡ heardBy (a .plan) (a .v .points) = letters .ensures in
     let told : outcome .result ≡ submask 8 (bit (letters .result)) k = outcome .ensures in
     c .after .ensures ∙ ap (positionAfter (a .at) (a .v)) (told ∙ ap (λ (m : ℕ). submask 8 (bit m) k) heard)
+
+rows-of-requires : tie.Need-rows-of-requires Inv-loop μ-loop
+rows-of-requires c κs = search needs
 
 heard-requires : tie.Need-heard-requires Inv-loop μ-loop
 heard-requires c κs = search needs
@@ -54,21 +57,23 @@ numbered-requires c κs = search needs
 after-requires : tie.Need-after-requires Inv-loop μ-loop
 after-requires c κs = search needs
 
-lost-requires : tie.Need-lost-requires Inv-loop μ-loop
-lost-requires c κs = search needs
+lost-by-requires : tie.Need-lost-by-requires Inv-loop μ-loop
+lost-by-requires c κs = search needs
 
 returns : tie.Need-returns Inv-loop μ-loop
 returns c =
-    let s = c .before .before .before .before .before .before .before .before in
+    let s = c .before .before .before .before .before .before .before .before .before .before in
     let a = s .args in
-    let k = c .before .before .before .before .before .loop .k in
-    let test = c .before .lost in
+    let k = c .before .before .before .before .before .before .loop .k in
+    let test = c .before .lost-by in
+    let said = c .before .before .before .before .before .before .before .before .before .rows-of .ensures in
     let yes : test .result ≡ true = c .if1 .taken in
     λ wf ok lg e.
-    let proper : Proper (a .plan) (c .before .before .after .result)
-    = rw (is-next (c .before .before)) (next-proper (a .plan) wf (a .at) ok (a .v) lg k) in
-    let said : ¬ CanBeWon (networkOf (a .plan)) (stateOf (a .plan) (c .before .before .after .result)) = test .ensures wf proper yes in
-    move-wins-nothing (a .plan) wf (a .at) ok (long s) (a .v) lg k (rw (is-next (c .before .before)) at said)
+    let proper : Proper (a .plan) (c .before .before .before .after .result)
+    = rw (is-next (c .before .before .before)) (next-proper (a .plan) wf (a .at) ok (a .v) lg k) in
+    let gone : ¬ CanBeWon (networkOf (a .plan)) (stateOf (a .plan) (c .before .before .before .after .result))
+    = test .ensures (said (wf .constraints)) wf proper yes in
+    move-wins-nothing (a .plan) wf (a .at) ok (long s) (a .v) lg k (rw (is-next (c .before .before .before)) at gone)
 
 add-k : tie.Need-add-k Inv-loop μ-loop
 add-k c = record { fits = omega arith }
@@ -88,12 +93,13 @@ move-lost-spec =
     (tie.spec
     Inv-loop
     μ-loop
+    rows-of-requires
     heard-requires
     submasks-requires
     loop-holds
     numbered-requires
     after-requires
-    lost-requires
+    lost-by-requires
     returns
     add-k
     loop-less

@@ -37,6 +37,7 @@ use Rattle.moves.proofs.first_move.Reads as first-move-reads
 use Rattle.moves.proofs.next_move.Reads as next-move-reads
 use Rattle.plan.proofs.letters.heard.Reads as heard-reads
 use Rattle.pruning.proofs.move_lost.Reads as move-lost-reads
+use Rattle.pruning.proofs.soonest.Reads as soonest-reads
 use Rattle.tree.proofs.put_node.Reads as put-node-reads
 use Rattle.turns.proofs.+agent+world.{statement}
 use Rattle.turns.proofs.+agent+world.Tie.{close}
@@ -64,6 +65,8 @@ abbrev agent-calls : ℕ → agent-lts.Claims
 agent-calls t = (
   all-kept-reads.Asked,
   all-kept-reads.Learnt,
+  soonest-reads.Asked,
+  soonest-reads.Learnt,
   first-move-reads.Asked,
   first-move-reads.Learnt,
   world-below t,
@@ -75,11 +78,11 @@ agent-calls t = (
 )
 
 abbrev agent-Inv-loop : agent-lts.InvT-loop
-agent-Inv-loop plan at buf₀ step₀ buf step =
-    (length buf ≡ length buf₀) × Trying plan at buf₀ buf step
+agent-Inv-loop plan at buf₀ soonest step₀ buf step =
+    (length buf ≡ length buf₀) × Trying plan at soonest buf₀ buf step
 
 abbrev agent-μ-loop : agent-lts.MeasureT-loop
-agent-μ-loop plan at buf₀ step₀ buf step = movesAhead step
+agent-μ-loop plan at buf₀ soonest step₀ buf step = movesAhead step
 
 abbrev world-calls : ℕ → world-lts.Claims
 world-calls t = (
@@ -108,35 +111,38 @@ world-μ-loop plan at v buf₀ heard outcomes count₀ k₀ buf count k = outcom
 
 -- the move at hand
 agent-tries : (t : ℕ) (c : agent-lts.After-known-told (agent-calls t) (agent-at t) agent.Post agent-Inv-loop agent-μ-loop) →
-    let a = c .before .before .before .before .before .before .before .before .args in
+    let a = c .before .before .before .before .before .before .before .before .before .args in
     let v = c .before .step .given .0 .0 in
-    Trying (a .plan) (a .at) (a .buf .now) (c .before .before .before .loop .buf) (step.Try v)
+    let soon = c .before .before .before .before .before .soonest in
+    Trying (a .plan) (a .at) (soon .result) (a .buf .now) (c .before .before .before .loop .buf) (step.Try v)
 agent-tries t c =
-    let a = c .before .before .before .before .before .before .before .before .args in
+    let a = c .before .before .before .before .before .before .before .before .before .args in
     let l = c .before .before .before .loop in
-    subst (Trying (a .plan) (a .at) (a .buf .now) (l .buf)) (c .before .step .given .1) (l .inv .1)
+    let soon = c .before .before .before .before .before .soonest in
+    subst (Trying (a .plan) (a .at) (soon .result) (a .buf .now) (l .buf)) (c .before .step .given .1) (l .inv .1)
 
 -- it has room, and so has what comes behind it
 agent-room : (t : ℕ) (c : agent-lts.After-known-told (agent-calls t) (agent-at t) agent.Post agent-Inv-loop agent-μ-loop) →
-    let a = c .before .before .before .before .before .before .before .before .args in
+    let a = c .before .before .before .before .before .before .before .before .before .args in
     let v = c .before .step .given .0 .0 in
     3 + 3 * mostBehind (networkOf (a .plan)) (stateOf (a .plan) (a .at)) (moveOf v) ≤ length (c .before .before .before .loop .buf)
 agent-room t c =
-    let s = c .before .before .before .before .before .before .before .before in
+    let s = c .before .before .before .before .before .before .before .before .before in
     let a = s .args in
     let l = c .before .before .before .loop in
-    at-place.move-fits (a .plan) (s .pre .1 .0) (a .at) (s .pre .1 .1) (a .buf .now) (s .pre .1 .2) (l .buf) (l .inv .0) _ (agent-tries t c)
+    at-place.move-fits (a .plan) (s .pre .1 .0) (a .at) (s .pre .1 .1) (a .buf .now) (s .pre .1 .2)
+    _ (l .buf) (l .inv .0) _ (agent-tries t c)
 
 -- what the world found behind it, where it is a tree
 agent-won : (t : ℕ) (c : agent-lts.After-known-told2 (agent-calls t) (agent-at t) agent.Post agent-Inv-loop agent-μ-loop) →
-    let a = c .before .before .before .before .before .before .before .before .before .before .before .before .before .before .before .args in
+    let a = c .before .before .before .before .before .before .before .before .before .before .before .before .before .before .before .before .args in
     let v = c .before .before .before .before .before .before .before .before .step .given .0 .0 in
     let n = c .before .below .given .0 .0 in
     let l = c .before .before .before .before .before .before .before .before .before .before .loop in
     let w = c .before .before .before .before .before .world in
     WorldAt (a .plan) (a .at) v (turn.Won n) (rest 3 (l .buf)) (w .last .1 .1 .1 .0)
 agent-won t c =
-    let a = c .before .before .before .before .before .before .before .before .before .before .before .before .before .before .before .args in
+    let a = c .before .before .before .before .before .before .before .before .before .before .before .before .before .before .before .before .args in
     let v = c .before .before .before .before .before .before .before .before .step .given .0 .0 in
     let l = c .before .before .before .before .before .before .before .before .before .before .loop in
     let w = c .before .before .before .before .before .world in
@@ -162,14 +168,20 @@ agent-returns-2 t c =
     at-place.ends-lost (a .plan) (s .pre .1 .0) (a .at) (s .pre .1 .1) (a .buf .now) (s .pre .1 .2)
     (c .before .before .before .if1 .taken) _ (c .before .all-kept .ensures) said
 
+agent-soonest-requires : (t : ℕ) → agent-lts.Need-soonest-requires (agent-calls t) (agent-at t) agent.Post agent-Inv-loop agent-μ-loop
+agent-soonest-requires t c κs = search needs
+
 agent-first-move-requires : (t : ℕ) → agent-lts.Need-first-move-requires (agent-calls t) (agent-at t) agent.Post agent-Inv-loop agent-μ-loop
 agent-first-move-requires t c κs = search needs
 
 agent-loop-holds : (t : ℕ) → agent-lts.Need-loop-holds (agent-calls t) (agent-at t) agent.Post agent-Inv-loop agent-μ-loop
 agent-loop-holds t c =
-    let s = c .before .before .before .before in
-    let a = s .args in
-    (refl, at-place.first-tried (a .plan) (s .pre .1 .0) (a .at) (s .pre .1 .1) (a .buf .now) (s .pre .1 .2) _ (c .first-move .ensures))
+    let s = c .before .before .before .before .before in
+    let a = s .args in (
+      refl,
+      at-place.first-tried (a .plan) (s .pre .1 .0) (a .at) (s .pre .1 .1) (a .buf .now) (s .pre .1 .2)
+          _ (c .before .soonest .ensures (s .pre .1 .0) (s .pre .1 .1)) _ (c .first-move .ensures),
+    )
 
 agent-enum-known-step : (t : ℕ) → agent-lts.Need-enum-known-step (agent-calls t) (agent-at t) agent.Post agent-Inv-loop agent-μ-loop
 agent-enum-known-step t c = search needs
@@ -182,11 +194,13 @@ agent-same-length t c = c .before .before .loop .inv .0
 
 agent-returns-3 : (t : ℕ) → agent-lts.Need-returns-3 (agent-calls t) (agent-at t) agent.Post agent-Inv-loop agent-μ-loop
 agent-returns-3 t c =
-    let s = c .before .before .before .before .before .before .before in
+    let s = c .before .before .before .before .before .before .before .before in
     let a = s .args in
     let l = c .before .before .loop in
-    at-place.tried-all (a .plan) (s .pre .1 .0) (a .at) (s .pre .1 .1) (a .buf .now) (s .pre .1 .2) (l .buf) (l .inv .0)
-    (c .before .before .before .before .if1 .left) (subst (Trying (a .plan) (a .at) (a .buf .now) (l .buf)) (c .enum-told .given .1) (l .inv .1))
+    let soon = c .before .before .before .before .soonest in
+    at-place.tried-all (a .plan) (s .pre .1 .0) (a .at) (s .pre .1 .1) (a .buf .now) (s .pre .1 .2) (soon .result) (l .buf) (l .inv .0)
+    (c .before .before .before .before .before .if1 .left)
+    (subst (Trying (a .plan) (a .at) (soon .result) (a .buf .now) (l .buf)) (c .enum-told .given .1) (l .inv .1))
 
 agent-sub-world : (t : ℕ) → agent-lts.Need-sub-world (agent-calls t) (agent-at t) agent.Post agent-Inv-loop agent-μ-loop
 agent-sub-world t c = let r = agent-room t c in omega arith
@@ -199,7 +213,7 @@ agent-part-world-end t c = omega arith
 
 agent-world-requires : (t : ℕ) → agent-lts.Need-world-requires (agent-calls t) (agent-at t) agent.Post agent-Inv-loop agent-μ-loop
 agent-world-requires t c κs =
-    let s = c .before .before .before .before .before .before .before .before .before in
+    let s = c .before .before .before .before .before .before .before .before .before .before in
     let a = s .args in
     let l = c .before .before .before .before .loop in
     let tries = agent-tries t (c .before) in (
@@ -208,7 +222,7 @@ agent-world-requires t c κs =
         s .pre .1 .0,
         s .pre .1 .1,
         tries .ahead .0,
-        at-place.part-fits (a .plan) (s .pre .1 .0) (a .at) (s .pre .1 .1) (a .buf .now) (s .pre .1 .2) (l .buf) (l .inv .0) _ tries,
+        at-place.part-fits (a .plan) (s .pre .1 .0) (a .at) (s .pre .1 .1) (a .buf .now) (s .pre .1 .2) _ (l .buf) (l .inv .0) _ tries,
       ),
     )
 
@@ -217,13 +231,13 @@ agent-enum-known-below t c = search needs
 
 agent-add-nodes : (t : ℕ) → agent-lts.Need-add-nodes (agent-calls t) (agent-at t) agent.Post agent-Inv-loop agent-μ-loop
 agent-add-nodes t c =
-    let s = c .before .before .before .before .before .before .before .before .before .before .before .before .before .before .before in
+    let s = c .before .before .before .before .before .before .before .before .before .before .before .before .before .before .before .before in
     let a = s .args in
     let l = c .before .before .before .before .before .before .before .before .before .before .loop in
     let tries = agent-tries t (c .before .before .before .before .before .before .before) in
     let won = agent-won t (c) in
     let f = at-place.count-fits (a .plan) (s .pre .1 .0) (a .at) (s .pre .1 .1) (a .buf .now) (s .pre .1 .2)
-    (l .buf) (l .inv .0) _ tries _ _ won in
+    _ (l .buf) (l .inv .0) _ tries _ _ won in
     let e = l .inv .0 in
     let g = s .good .1 .1 .0 .0 in
     omega arith
@@ -236,13 +250,13 @@ agent-same-length-2 t c = search needs
 
 agent-returns-4 : (t : ℕ) → agent-lts.Need-returns-4 (agent-calls t) (agent-at t) agent.Post agent-Inv-loop agent-μ-loop
 agent-returns-4 t c =
-    let s = c .before .before .before .before .before .before .before .before .before .before .before .before .before .before .before .before .before .before .before in
+    let s = c .before .before .before .before .before .before .before .before .before .before .before .before .before .before .before .before .before .before .before .before in
     let a = s .args in
     let l = c .before .before .before .before .before .before .before .before .before .before .before .before .before .before .loop in
     let tries = agent-tries t (c .before .before .before .before .before .before .before .before .before .before .before) in
     let won = agent-won t (c .before .before .before .before) in
     at-place.tried-wins (a .plan) (s .pre .1 .0) (a .at) (s .pre .1 .1) (a .buf .now) (s .pre .1 .2)
-    (l .buf) (l .inv .0) _ tries _ _ _ won (c .before .before .put-node .ensures)
+    _ (l .buf) (l .inv .0) _ tries _ _ _ won (c .before .before .put-node .ensures)
 
 agent-enum-told-2 : (t : ℕ) → agent-lts.Need-enum-told-2 (agent-calls t) (agent-at t) agent.Post agent-Inv-loop agent-μ-loop
 agent-enum-told-2 t c = search needs
@@ -252,26 +266,28 @@ agent-next-move-requires t c κs = search needs
 
 agent-loop-less : (t : ℕ) → agent-lts.Need-loop-less (agent-calls t) (agent-at t) agent.Post agent-Inv-loop agent-μ-loop
 agent-loop-less t c =
-    let s = c .before .before .before .before .before .before .before .before .before .before .before .before .before .before .before in
+    let s = c .before .before .before .before .before .before .before .before .before .before .before .before .before .before .before .before in
     let a = s .args in
     let tries = agent-tries t (c .before .before .before .before .before .before .before) in
-    let falls = ahead-falls (a .plan) (s .pre .1 .0) (a .at) (s .pre .1 .1) _ (tries .ahead .0) in
+    let falls = ahead-falls (a .plan) (s .pre .1 .0) (a .at) (s .pre .1 .1) _ _ (tries .ahead .0) (tries .ahead .1) in
     let tried = c .before .before .before .before .before .before .before .before .step .given .1 in
     subst (λ (x : Step). movesAhead (c .next-move .result) < movesAhead x) (sym tried) (rw (c .next-move .ensures) falls)
 
 agent-loop-again : (t : ℕ) → agent-lts.Need-loop-again (agent-calls t) (agent-at t) agent.Post agent-Inv-loop agent-μ-loop
 agent-loop-again t c =
-    let s = c .before .before .before .before .before .before .before .before .before .before .before .before .before .before .before in
+    let s = c .before .before .before .before .before .before .before .before .before .before .before .before .before .before .before .before in
     let a = s .args in
     let l = c .before .before .before .before .before .before .before .before .before .before .loop in
     let w = c .before .before .before .before .before .world in
     let es = w .last .1 .1 .1 .0 in
     let v = c .before .before .before .before .before .before .before .before .step .given .0 .0 in
+    let soon = c .before .before .before .before .before .before .before .before .before .before .before .before .soonest in
     let told = c .before .enum-told2 .given .1 in
     let lost = subst (λ (r : Turn). WorldAt (a .plan) (a .at) v r (rest 3 (l .buf)) es) told (w .ensures) in (
       same-len-mid 3 (length (l .buf) - 3) (l .buf) es (w .kept .1 .1 .1 .0) ∙ l .inv .0,
       at-place.tried-next (a .plan) (s .pre .1 .0) (a .at) (s .pre .1 .1) (a .buf .now) (s .pre .1 .2)
-          (l .buf) (l .inv .0) v (agent-tries t (c .before .before .before .before .before .before .before)) es lost _ (c .next-move .ensures),
+          _ (l .buf) (l .inv .0) v (agent-tries t (c .before .before .before .before .before .before .before)) es
+          (soon .ensures (s .pre .1 .0) (s .pre .1 .1)) lost _ (c .next-move .ensures),
     )
 
 -- ---- the world
@@ -463,6 +479,7 @@ pub +agent+world-spec : {M : Type 1} → statement M
     (agent-all-kept-requires t)
     (agent-returns t)
     (agent-returns-2 t)
+    (agent-soonest-requires t)
     (agent-first-move-requires t)
     (agent-loop-holds t)
     (agent-enum-known-step t)

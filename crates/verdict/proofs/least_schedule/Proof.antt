@@ -4,6 +4,7 @@ use borrow.Author.Needs.{needs}
 use lib.ListN.{replicate}
 use Rattle.plan.specs.declared.Refusal.the-variants as refusal
 use Rattle.plan.specs.Refusal.{judgedNumber}
+use Rattle.plan.specs.WellFormed.{WellFormed}
 use Rattle.judge.specs.Judge.{planFault}
 use Rattle.judge.proofs.WellFormedLaws.{fine-exactly}
 use Rattle.network.proofs.Booleans.{not-true, not-false}
@@ -52,7 +53,9 @@ returns-2 c =
     (sym (c .before .before .among .ensures) ∙ not-true (c .before .before .among .result) (c .before .if1 .taken))
 
 decide-requires : tie.Need-decide-requires
-decide-requires c κs = fine-exactly (c .before .before .before .before .before .args .plan) .0 (sym (no-fault (c .before .before))) .horizon
+decide-requires c κs =
+    let wf : WellFormed (c .before .before .before .before .before .args .plan) = fine-exactly (c .before .before .before .before .before .args .plan) .0 (sym (no-fault (c .before .before))) in
+    (wf .horizon, wf .constraints)
 
 returns-3 : tie.Need-returns-3
 returns-3 c =

@@ -10,7 +10,6 @@ use Rattle.network.specs.Mask.{allBelow}
 use Rattle.network.specs.Network.{slotsIn}
 use Rattle.network.proofs.Booleans.{leb-yes, leb-no}
 use Rattle.network.proofs.BelowLaws.{all-start, all-next, all-fails}
-use Rattle.verdict.specs.Verdict.{withinHorizon}
 use Rattle.verdict.proofs.within_horizon.Statement.{statement}
 use Rattle.verdict.proofs.within_horizon.Tie as tie
 
@@ -18,24 +17,23 @@ abbrev within : ℕ → List ℕ → ℕ → Bool
 within horizon slots x = leb (slotsIn slots x) horizon
 
 abbrev Inv-loop : tie.InvT-loop
-Inv-loop slots n horizon x₀ x = (x ≤ n) × (allBelow x (within horizon slots) ≡ true)
+Inv-loop points horizon slots x₀ x = (x ≤ points) × (allBelow x (within horizon slots) ≡ true)
 
 abbrev μ-loop : tie.MeasureT-loop
-μ-loop slots n horizon x₀ x = n - x
+μ-loop points horizon slots x₀ x = points - x
 
 loop-holds : tie.Need-loop-holds Inv-loop μ-loop
-loop-holds c = (omega arith, all-start (within (c .args .plan .horizon) (c .args .slots)))
+loop-holds c = (omega arith, all-start (within (c .args .horizon) (c .args .slots)))
 
 slot-of-requires : tie.Need-slot-of-requires Inv-loop μ-loop
 slot-of-requires c κs = search needs
 
 returns : tie.Need-returns Inv-loop μ-loop
-unfolding withinHorizon
 returns c =
     let a = c .before .before .before .before .args in
     let x = c .before .before .before .loop .x in
-    sym (all-fails (within (a .plan .horizon) (a .slots)) (a .plan .points) x (omega arith)
-    (rw (← c .before .slot-of .ensures) (leb-no (c .before .slot-of .result) (a .plan .horizon) (λ le. omega arith))))
+    sym (all-fails (within (a .horizon) (a .slots)) (a .points) x (omega arith)
+    (rw (← c .before .slot-of .ensures) (leb-no (c .before .slot-of .result) (a .horizon) (λ le. omega arith))))
 
 add-x : tie.Need-add-x Inv-loop μ-loop
 add-x c = record { fits = omega arith }
@@ -47,14 +45,13 @@ loop-again : tie.Need-loop-again Inv-loop μ-loop
 loop-again c =
     let a = c .before .before .before .before .args in (
       omega arith,
-      all-next (within (a .plan .horizon) (a .slots)) (c .before .before .before .loop .x) (c .before .before .before .loop .inv .1)
-          (rw (← c .before .slot-of .ensures) (leb-yes (c .before .slot-of .result) (a .plan .horizon) (omega arith))),
+      all-next (within (a .horizon) (a .slots)) (c .before .before .before .loop .x) (c .before .before .before .loop .inv .1)
+          (rw (← c .before .slot-of .ensures) (leb-yes (c .before .slot-of .result) (a .horizon) (omega arith))),
     )
 
 returns-2 : tie.Need-returns-2 Inv-loop μ-loop
-unfolding withinHorizon
 returns-2 c =
-    let e : c .before .loop .x ≡ c .before .before .args .plan .points = omega arith in
+    let e : c .before .loop .x ≡ c .before .before .args .points = omega arith in
     sym (rw e at (c .before .loop .inv .1))
 
 pub within-horizon-spec : {M : Type 1} → statement M

@@ -6,28 +6,28 @@ use native.Mathlib.Omega.{arith}
 use borrow.Author.Needs.{needs}
 use Rattle.network.specs.Mask.{bit}
 use Rattle.network.specs.Raise.{turns}
-use Rattle.plan.specs.declared.Plan.{Plan}
-use Rattle.plan.specs.Plan.{constraintAt, constraintOf, listed}
+use Rattle.plan.specs.Plan.{constraintOf, listed}
+use Rattle.constraints.specs.Rows.{rowAt, rowsSay}
 use Rattle.constraints.proofs.RaisingLaws.{turns-next}
 use Rattle.constraints.proofs.raising.raise.Statement.{statement}
 use Rattle.constraints.proofs.raising.raise.Tie as tie
 
 -- after the turns of the first j constraints
-abbrev after : Plan → ℕ → ℕ → List ℕ → ℕ → List ℕ
-after plan values cap slots j = turns cap (bit values) slots (listed j (λ i. constraintOf (constraintAt plan i)))
+abbrev after : List ℕ → ℕ → ℕ → List ℕ → ℕ → List ℕ
+after rows values cap slots j = turns cap (bit values) slots (rowsSay j rows)
 
 abbrev Inv-loop : tie.InvT-loop
-Inv-loop plan values cap count moved₀ k₀ moved k = (k ≤ count) × (moved ≡ after plan values cap moved₀ k)
+Inv-loop rows count values cap moved₀ k₀ moved k = (k ≤ count) × (moved ≡ after rows values cap moved₀ k)
 
 abbrev μ-loop : tie.MeasureT-loop
-μ-loop plan values cap count moved₀ k₀ moved k = count - k
+μ-loop rows count values cap moved₀ k₀ moved k = count - k
 
 loop-holds : tie.Need-loop-holds Inv-loop μ-loop
 unfolding turns listed
 loop-holds c = (omega arith, refl)
 
-constraint-at-requires : tie.Need-constraint-at-requires Inv-loop μ-loop
-constraint-at-requires c κs = search needs
+row-at-requires : tie.Need-row-at-requires Inv-loop μ-loop
+row-at-requires c κs = search needs
 
 take-turn-requires : tie.Need-take-turn-requires Inv-loop μ-loop
 take-turn-requires c κs = search needs
@@ -44,15 +44,15 @@ loop-again c =
     let now = c .before .before .before .loop in (
       omega arith,
       c .take-turn .ensures
-          ∙ rw (c .before .constraint-at .ensures, now .inv .1)
-          (sym (turns-next (a .cap) (bit (a .values)) _ (now .k) (λ i. constraintOf (constraintAt (a .plan) i)))),
+          ∙ rw (c .before .row-at .ensures, now .inv .1)
+          (sym (turns-next (a .cap) (bit (a .values)) _ (now .k) (λ i. constraintOf (rowAt (a .rows .now) i)))),
     )
 
 returns : tie.Need-returns Inv-loop μ-loop
 returns c =
     let a = c .before .before .args in
-    let e : c .before .loop .k ≡ a .plan .constraints = omega arith in
-    c .before .loop .inv .1 ∙ ap (after (a .plan) (a .values) (a .cap) _) e
+    let e : c .before .loop .k ≡ a .count = omega arith in
+    c .before .loop .inv .1 ∙ ap (after (a .rows .now) (a .values) (a .cap) _) e
 
 pub raise-spec : {M : Type 1} → statement M
 raise-spec =
@@ -61,7 +61,7 @@ raise-spec =
     Inv-loop
     μ-loop
     loop-holds
-    constraint-at-requires
+    row-at-requires
     take-turn-requires
     add-k
     loop-less

@@ -1,23 +1,14 @@
--- `settled`: the letters of both masks. Only the checker need believe this file.
+-- `settled`: the plan's letters of that kind. Only the checker need believe this file.
+use mathlib.Core.Path.{refl}
 use borrow.Author.Needs.{needs}
-use Rattle.network.specs.Mask.{bit}
-use Rattle.network.specs.Network.{decision}
-use Rattle.network.proofs.MachineLaws.{and-masks}
-use Rattle.plan.specs.Plan.{networkOf}
 use Rattle.plan.proofs.letters.settled.Statement.{statement}
 use Rattle.plan.proofs.letters.settled.Tie as tie
 
-decisions-requires : tie.Need-decisions-requires
-decisions-requires c κs = search needs
-
-disclosed-requires : tie.Need-disclosed-requires
-disclosed-requires c κs = search needs
+told-requires : tie.Need-told-requires
+told-requires c κs = search needs
 
 returns : tie.Need-returns
-returns c =
-    let a = c .before .before .args in
-    rw (c .before .decisions .ensures, c .disclosed .ensures)
-    (and-masks 6 (decision (networkOf (a .plan))) (λ l. bit (a .points) (networkOf (a .plan) .disclosing l)))
+returns c = c .told .ensures (c .before .before .args .plan) refl refl
 
 pub settled-spec : {M : Type 1} → statement M
-settled-spec = tie.close (tie.spec decisions-requires disclosed-requires returns)
+settled-spec = tie.close (tie.spec told-requires returns)

@@ -25,8 +25,14 @@ loop-holds : tie.Need-loop-holds Inv-loop μ-loop
 unfolding joinBelow
 loop-holds c = search needs
 
-constraint-at-requires : tie.Need-constraint-at-requires Inv-loop μ-loop
-constraint-at-requires c κs = search needs
+cast-put-constraint : tie.Need-cast-put-constraint Inv-loop μ-loop
+cast-put-constraint c = search needs
+
+mul-put-constraint : tie.Need-mul-put-constraint Inv-loop μ-loop
+mul-put-constraint c = search needs
+
+element-copy-out-put-constraint : tie.Need-element-copy-out-put-constraint Inv-loop μ-loop
+element-copy-out-put-constraint c = search needs
 
 put-constraint-requires : tie.Need-put-constraint-requires Inv-loop μ-loop
 put-constraint-requires c κs = search needs
@@ -47,8 +53,8 @@ loop-again c =
       search needs,
       search needs,
       c .before .before .put-constraint .kept .0 ∙ l .inv .2,
-      join-next (λ k. constraintBytes (constraintAt (a .p) k)) 6 (λ k. refl) (now (a .out)) 16 (l .at) (l .j) (l .inv .1)
-          (rw (c .before .before .before .constraint-at .ensures, l .inv .3) at (c .before .before .put-constraint .ensures)),
+      join-next (λ k. constraintBytes (constraintAt (a .t2) k)) 6 (λ k. refl) (now (a .out)) 16 (l .at) (l .j) (l .inv .1)
+          (rw (l .inv .3) at (c .before .before .put-constraint .ensures)),
     )
 
 same-length : tie.Need-same-length Inv-loop μ-loop
@@ -67,7 +73,9 @@ put-constraints-spec =
     Inv-loop
     μ-loop
     loop-holds
-    constraint-at-requires
+    cast-put-constraint
+    mul-put-constraint
+    element-copy-out-put-constraint
     put-constraint-requires
     add-at
     add-j

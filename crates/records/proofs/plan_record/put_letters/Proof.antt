@@ -25,8 +25,14 @@ loop-holds : tie.Need-loop-holds Inv-loop μ-loop
 unfolding joinBelow
 loop-holds c = search needs
 
-letter-at-requires : tie.Need-letter-at-requires Inv-loop μ-loop
-letter-at-requires c κs = search needs
+cast-put-letter : tie.Need-cast-put-letter Inv-loop μ-loop
+cast-put-letter c = search needs
+
+mul-put-letter : tie.Need-mul-put-letter Inv-loop μ-loop
+mul-put-letter c = search needs
+
+element-copy-out-put-letter : tie.Need-element-copy-out-put-letter Inv-loop μ-loop
+element-copy-out-put-letter c = search needs
 
 put-letter-requires : tie.Need-put-letter-requires Inv-loop μ-loop
 put-letter-requires c κs = search needs
@@ -47,8 +53,8 @@ loop-again c =
       search needs,
       search needs,
       c .before .before .put-letter .kept .0 ∙ l .inv .2,
-      join-next (λ k. letterBytes (letterAt (a .p) k)) 2 (λ k. refl) (now (a .out)) 4 (l .at) (l .i) (l .inv .1)
-          (rw (c .before .before .before .letter-at .ensures, l .inv .3) at (c .before .before .put-letter .ensures)),
+      join-next (λ k. letterBytes (letterAt (a .t2) k)) 2 (λ k. refl) (now (a .out)) 4 (l .at) (l .i) (l .inv .1)
+          (rw (l .inv .3) at (c .before .before .put-letter .ensures)),
     )
 
 same-length : tie.Need-same-length Inv-loop μ-loop
@@ -67,7 +73,9 @@ put-letters-spec =
     Inv-loop
     μ-loop
     loop-holds
-    letter-at-requires
+    cast-put-letter
+    mul-put-letter
+    element-copy-out-put-letter
     put-letter-requires
     add-at
     add-i

@@ -2,8 +2,7 @@
 use mathlib.Core.Path.{_∙_}
 use borrow.Author.Needs.{needs}
 use Rattle.network.specs.Mask.{bit}
-use Rattle.plan.specs.Plan.{networkOf}
-use Rattle.verdict.proofs.CodeLaws.{says-scheduled}
+use Rattle.verdict.proofs.CodeLaws.{found-scheduled}
 use Rattle.verdict.proofs.screen.schedulable.Statement.{statement}
 use Rattle.verdict.proofs.screen.schedulable.Tie as tie
 
@@ -17,10 +16,10 @@ within-horizon-requires : tie.Need-within-horizon-requires
 within-horizon-requires c κs = search needs
 
 returns : tie.Need-returns
-returns c =
-    let a = c .before .before .before .args in
-    c .within-horizon .ensures
-    ∙ says-scheduled (networkOf (a .plan)) (bit (a .values)) (c .before .least-slots .result) (c .before .least-slots .ensures)
+returns c net h p e =
+    let a = c .before .before .args in
+    let least = c .before .least-slots in
+    c .within-horizon .ensures ∙ found-scheduled net (bit (a .values)) (least .result) (a .horizon) (a .points) h p (least .ensures net e)
 
 pub schedulable-spec : {M : Type 1} → statement M
 schedulable-spec = tie.close (tie.spec add-least-slots least-slots-requires within-horizon-requires returns)

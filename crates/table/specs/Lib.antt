@@ -1,0 +1,2 @@
+-- Definitions: the modules of this folder. A reader need not believe them.
+pub mod Table
