@@ -115,8 +115,13 @@ filled-next p rows after j f put =
 listed-cong : {A : Type 0} (n : ℕ) (f g : ℕ → A) → ((i : ℕ) → i < n → f i ≡ g i) → listed n f ≡ listed n g
 unfolding listed
 listed-cong zero f g h = refl
-listed-cong (suc n) f g h = rw (h zero (omega arith), listed-cong n (λ i. f (suc i)) (λ i. g (suc i)) (λ i lt. h (suc i) (omega arith))) refl
+listed-cong (suc n) f g h = rw (
+  h zero (omega arith),
+  listed-cong n (λ i. f (suc i)) (λ i. g (suc i))
+      (λ i lt. h (suc i) (omega arith)),
+) refl
 
 pub filled-says : (p : Plan) (rows : List ℕ) → Filled p rows (p .constraints) → rowsSay (p .constraints) rows ≡ networkOf p .constraints
 filled-says p rows f =
-    listed-cong (p .constraints) (λ j. constraintOf (rowAt rows j)) (λ j. constraintOf (constraintAt p j)) (λ i lt. ap constraintOf (f .each i lt))
+    listed-cong (p .constraints) (λ j. constraintOf (rowAt rows j)) (λ j. constraintOf (constraintAt p j))
+    (λ i lt. ap constraintOf (f .each i lt))

@@ -97,7 +97,8 @@ put-more table after s slots x k p h e =
           inr (
             same,
             subst (λ (n : ℕ). getD (set after k (getD slots x 0)) n 0 ≤ getD slots y 0) (sym q)
-                (subst (λ (z : ℕ). getD (set after k (getD slots x 0)) k 0 ≤ getD slots z 0) (sym point) (getD-set-le after k (getD slots x 0))),
+                (subst (λ (z : ℕ). getD (set after k (getD slots x 0)) k 0 ≤ getD slots z 0) (sym point)
+                (getD-set-le after k (getD slots x 0))),
           ))
           (λ n. rw (getD-set-other after k (r * 8 + y) (getD slots x 0) 0 n) (p .each r y lt));
     }
@@ -206,7 +207,8 @@ module _ (v : View) (rows : List ℕ) where
         (λ p. by-cases (ℕ-discrete d (p .0))
         (λ same. let there = f (flipped v s q x (p .0)) x (p .3) (w .left-point x l) in
         let slot = p .4 in
-        let here : less ≤ entry table (flipped v s q x (p .0)) x = subst (λ (e : ℕ). less ≤ entry table (flipped v s q x e) x) same entered in
+        let here : less ≤ entry table (flipped v s q x (p .0)) x = subst
+        (λ (e : ℕ). less ≤ entry table (flipped v s q x e) x) same entered in
         inl (omega arith))
         (λ n. let m = p .1 in inr (p .0, omega arith, p .2, p .3, p .4)))
         (seeking .each w f on u l)
@@ -322,7 +324,8 @@ module _ {v : View} {rows : List ℕ} where
   assume-nothing = record { fits = λ w on f. f }
 
   pub assume-strike :
-      {s o : ℕ} (d : ℕ) {table after last : List ℕ} → Assuming v rows s table after → Within (v .undecided) d → o ≡ setTo s (v .undecided) d →
+      {s o : ℕ} (d : ℕ) {table after last : List ℕ} → Assuming v rows s table after → Within (v .undecided) d → o ≡ setTo s
+      (v .undecided) d →
       o ≢ s → Put after last o (replicate 8 255) → Assuming v rows s table last
   assume-strike {s} d a h e n put =
       record {
@@ -354,7 +357,8 @@ module _ (v : View) (rows : List ℕ) where
 
   -- lesser slots, no later than the row of d either
   pub below-lesser :
-      (table least next : List ℕ) (d : ℕ) → ((x : ℕ) → x < 8 → getD next x 0 ≤ getD least x 0) → BelowAt table least d → BelowAt table next d
+      (table least next : List ℕ) (d : ℕ) → ((x : ℕ) → x < 8 → getD next x 0 ≤ getD least x 0) → BelowAt table least d →
+      BelowAt table next d
   below-lesser table least next d le b w f on x lt = let few = w .few-points in le-trans (le x (omega arith)) (b w f on x lt)
 
   pub below-row :

@@ -16,12 +16,17 @@ abbrev μ-loop : tie.MeasureT-loop
 byte : (c : tie.Start Inv-loop μ-loop) → (c .args .v .unheard < 256) × (c .args .v .undecided < 256)
 byte c = (search needs, search needs)
 
-tightened : (c : tie.After-keep-constraints Inv-loop μ-loop) → Tighter (c .before .before .before .before .before .before .args .v) (c .before .before .before .before .before .before .args .rows .now) (c .before .before .before .before .before .before .args .table .now) (c .keep-constraints .last .1 .1 .0)
+tightened : (c : tie.After-keep-constraints Inv-loop μ-loop) → Tighter (c .before .before .before .before .before .before .args .v)
+    (c .before .before .before .before .before .before .args .rows .now)
+    (c .before .before .before .before .before .before .args .table .now) (c .keep-constraints .last .1 .1 .0)
 tightened c = join (c .before .before .before .loop .inv .2) (from-low (c .keep-constraints .ensures))
 
-further : (c : tie.Else1 Inv-loop μ-loop) → Within (unknown (c .before .before .before .before .before .before .before .before .args .v)) (c .before .next-inside .result) × (c .before .before .before .before .before .loop .u < c .before .next-inside .result)
+further : (c : tie.Else1 Inv-loop μ-loop) → Within (unknown (c .before .before .before .before .before .before .before .before .args .v))
+    (c .before .next-inside .result) × (c .before .before .before .before .before .loop .u < c .before .next-inside .result)
 further c =
-    go-on (unknown (c .before .before .before .before .before .before .before .before .args .v)) (c .before .before .before .before .before .loop .inv .0) (c .before .before .before .before .before .loop .u) (c .before .before .before .before .before .loop .inv .1) _ (c .before .next-inside .ensures) (c .if1 .left)
+    go-on (unknown (c .before .before .before .before .before .before .before .before .args .v))
+    (c .before .before .before .before .before .loop .inv .0) (c .before .before .before .before .before .loop .u)
+    (c .before .before .before .before .before .loop .inv .1) _ (c .before .next-inside .ensures) (c .if1 .left)
 
 loop-holds : tie.Need-loop-holds Inv-loop μ-loop
 loop-holds c = (or-byte _ _ (byte (c .before .before) .0) (byte (c .before .before) .1), within-none _, same-table)

@@ -14,7 +14,8 @@ all-remain-requires c κs = search needs
 
 returns : tie.Need-returns
 returns c =
-    λ e. no-win (c .before .before .before .first-rows .ensures) (c .before .all-remain .ensures (not-true (c .before .all-remain .result) (c .if1 .taken)) _)
+    λ e. no-win (c .before .before .before .first-rows .ensures)
+    (c .before .all-remain .ensures (not-true (c .before .all-remain .result) (c .if1 .taken)) _)
 
 tighten-requires : tie.Need-tighten-requires
 tighten-requires c κs = search needs
@@ -22,7 +23,8 @@ tighten-requires c κs = search needs
 returns-2 : tie.Need-returns-2
 returns-2 c =
     let said = c .before .tighten in
-    λ e. no-win (c .before .before .before .before .before .before .first-rows .ensures) (said .ensures .1 (not-true (said .result) (c .if2 .taken)))
+    λ e. no-win (c .before .before .before .before .before .before .first-rows .ensures)
+    (said .ensures .1 (not-true (said .result) (c .if2 .taken)))
 
 returns-3 : tie.Need-returns-3
 returns-3 c = λ e. clash e refl

@@ -44,8 +44,11 @@ loop-less c = search needs
 
 loop-again : tie.Need-loop-again Inv-loop μ-loop
 loop-again c =
-    let a = c .before .before .before .args in
-    (omega arith, no-later-next (a .t1) (a .t2) (c .before .before .loop .out) (c .before .before .loop .x) (c .lesser .result) (c .before .before .loop .inv .1) (c .lesser .ensures .0) (c .lesser .ensures .1))
+    let a = c .before .before .before .args in (
+      omega arith,
+      no-later-next (a .t1) (a .t2) (c .before .before .loop .out) (c .before .before .loop .x) (c .lesser .result)
+          (c .before .before .loop .inv .1) (c .lesser .ensures .0) (c .lesser .ensures .1),
+    )
 
 returns : tie.Need-returns Inv-loop μ-loop
 returns c =

@@ -43,7 +43,8 @@ loop-again c =
     let was = c .before .before .before .before .before .loop in
     let put = c .put-row in (
       omega arith,
-      filled-next (c .before .before .before .before .before .before .args .t1) (was .rows) (put .last .0) (was .j) (was .inv .1) (put .ensures),
+      filled-next (c .before .before .before .before .before .before .args .t1) (was .rows) (put .last .0) (was .j) (was .inv .1)
+          (put .ensures),
     )
 
 returns-2 : tie.Need-returns-2 Inv-loop μ-loop

@@ -56,7 +56,8 @@ element-copy-out-t34 c = search needs
 returns : tie.Need-returns
 returns c =
     let a = c .before .before .before .before .before .before .before .before .before .args in
-    row-read (a .table .now) (c .before .before .before .before .before .before .before .before .place .result) (a .s) (c .before .before .before .before .before .before .before .before .place .ensures .0)
+    row-read (a .table .now) (c .before .before .before .before .before .before .before .before .place .result) (a .s)
+    (c .before .before .before .before .before .before .before .before .place .ensures .0)
 
 pub row-of-spec : {M : Type 1} → statement M
 row-of-spec =

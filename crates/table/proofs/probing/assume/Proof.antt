@@ -17,7 +17,8 @@ abbrev μ-loop : tie.MeasureT-loop
 μ-loop v table₀ s d₀ table d = 256 - d
 
 passed : (c : tie.Joined1 Inv-loop μ-loop) (rows : List ℕ) →
-    Assuming (c .before .before .before .args .v) rows (c .before .before .before .args .s) (c .before .before .before .args .table .now) (c .if1 .table)
+    Assuming (c .before .before .before .args .v) rows (c .before .before .before .args .s) (c .before .before .before .args .table .now)
+    (c .if1 .table)
 passed c rows =
     let a = c .before .before .before .args .v in
     let t = c .before .before .before .args .s in
@@ -31,9 +32,12 @@ passed c rows =
 byte : (c : tie.Start Inv-loop μ-loop) → c .args .v .undecided < 256
 byte c = search needs
 
-further : (c : tie.Else2 Inv-loop μ-loop) → Within (c .before .before .before .before .before .args .v .undecided) (c .before .next-inside .result) × (c .before .before .before .before .loop .d < c .before .next-inside .result)
+further : (c : tie.Else2 Inv-loop μ-loop) → Within (c .before .before .before .before .before .args .v .undecided)
+    (c .before .next-inside .result) × (c .before .before .before .before .loop .d < c .before .next-inside .result)
 further c =
-    go-on (c .before .before .before .before .before .args .v .undecided) (byte (c .before .before .before .before .before)) (c .before .before .before .before .loop .d) (c .before .before .before .before .loop .inv .0) _ (c .before .next-inside .ensures) (c .if2 .left)
+    go-on (c .before .before .before .before .before .args .v .undecided) (byte (c .before .before .before .before .before))
+    (c .before .before .before .before .loop .d) (c .before .before .before .before .loop .inv .0) _ (c .before .next-inside .ensures)
+    (c .if2 .left)
 
 loop-holds : tie.Need-loop-holds Inv-loop μ-loop
 loop-holds c = (within-none _, λ rows. assume-nothing)

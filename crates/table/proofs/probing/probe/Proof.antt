@@ -28,7 +28,8 @@ strike-requires c κs = search needs
 returns-2 : tie.Need-returns-2
 returns-2 c =
     let said = c .before .before .before .tighten in
-    probe-strike (c .before .before .before .before .before .before .assume .ensures _) (said .ensures .1 (c .before .before .if1 .left)) (c .strike .ensures)
+    probe-strike (c .before .before .before .before .before .before .assume .ensures _) (said .ensures .1 (c .before .before .if1 .left))
+    (c .strike .ensures)
 
 pub probe-spec : {M : Type 1} → statement M
 probe-spec =

@@ -16,9 +16,12 @@ abbrev μ-loop : tie.MeasureT-loop
 byte : (c : tie.Start Inv-loop μ-loop) → (c .args .v .unheard < 256) × (c .args .v .undecided < 256)
 byte c = (search needs, search needs)
 
-further : (c : tie.Else1 Inv-loop μ-loop) → Within (unknown (c .before .before .before .before .before .before .before .args .v)) (c .before .next-inside .result) × (c .before .before .before .before .before .loop .u < c .before .next-inside .result)
+further : (c : tie.Else1 Inv-loop μ-loop) → Within (unknown (c .before .before .before .before .before .before .before .args .v))
+    (c .before .next-inside .result) × (c .before .before .before .before .before .loop .u < c .before .next-inside .result)
 further c =
-    go-on (unknown (c .before .before .before .before .before .before .before .args .v)) (c .before .before .before .before .before .loop .inv .0) (c .before .before .before .before .before .loop .u) (c .before .before .before .before .before .loop .inv .1) _ (c .before .next-inside .ensures) (c .if1 .left)
+    go-on (unknown (c .before .before .before .before .before .before .before .args .v))
+    (c .before .before .before .before .before .loop .inv .0) (c .before .before .before .before .before .loop .u)
+    (c .before .before .before .before .before .loop .inv .1) _ (c .before .next-inside .ensures) (c .if1 .left)
 
 loop-holds : tie.Need-loop-holds Inv-loop μ-loop
 loop-holds c = (or-byte _ _ (byte (c .before) .0) (byte (c .before) .1), within-none _, same-table)
@@ -39,7 +42,12 @@ loop-less : tie.Need-loop-less Inv-loop μ-loop
 loop-less c = let r = further c in let lt = r .1 in omega arith
 
 loop-again : tie.Need-loop-again Inv-loop μ-loop
-loop-again c = (c .before .before .before .before .before .loop .inv .0, further c .0, join (c .before .before .before .before .before .loop .inv .2) (c .before .before .probe-open .ensures))
+loop-again c = (
+  c .before .before .before .before .before .loop .inv .0,
+  further c .0,
+  join
+      (c .before .before .before .before .before .loop .inv .2) (c .before .before .probe-open .ensures),
+)
 
 pub probe-each-spec : {M : Type 1} → statement M
 probe-each-spec =

@@ -29,7 +29,8 @@ tighten-requires c κs = search needs
 returns-2 : tie.Need-returns-2 Inv-loop μ-loop
 returns-2 c =
     let said = c .before .tighten in
-    λ e. lost-before (join (c .before .before .before .before .before .before .before .loop .inv) (c .before .before .before .before .probe-each .ensures)) (said .ensures .1 (not-true (said .result) (c .if2 .taken)))
+    λ e. lost-before (join (c .before .before .before .before .before .before .before .loop .inv)
+    (c .before .before .before .before .probe-each .ensures)) (said .ensures .1 (not-true (said .result) (c .if2 .taken)))
 
 add-n : tie.Need-add-n Inv-loop μ-loop
 add-n c = search needs
@@ -38,7 +39,8 @@ loop-less : tie.Need-loop-less Inv-loop μ-loop
 loop-less c = search needs
 
 loop-again : tie.Need-loop-again Inv-loop μ-loop
-loop-again c = join (join (c .before .before .before .before .before .before .before .loop .inv) (c .before .before .before .before .probe-each .ensures)) (c .before .tighten .ensures .0)
+loop-again c = join (join (c .before .before .before .before .before .before .before .loop .inv)
+    (c .before .before .before .before .probe-each .ensures)) (c .before .tighten .ensures .0)
 
 returns-3 : tie.Need-returns-3 Inv-loop μ-loop
 returns-3 c = λ e. clash e refl

@@ -18,9 +18,12 @@ abbrev μ-loop : tie.MeasureT-loop
 byte : (c : tie.Start Inv-loop μ-loop) → c .args .v .unheard < 256
 byte c = search needs
 
-further : (c : tie.Else3 Inv-loop μ-loop) → Within (c .before .before .before .before .before .before .args .v .unheard) (c .before .next-inside .result) × (c .before .before .before .before .before .loop .u < c .before .next-inside .result)
+further : (c : tie.Else3 Inv-loop μ-loop) → Within (c .before .before .before .before .before .before .args .v .unheard)
+    (c .before .next-inside .result) × (c .before .before .before .before .before .loop .u < c .before .next-inside .result)
 further c =
-    go-on (c .before .before .before .before .before .before .args .v .unheard) (byte (c .before .before .before .before .before .before)) (c .before .before .before .before .before .loop .u) (c .before .before .before .before .before .loop .inv) _ (c .before .next-inside .ensures) (c .if3 .left)
+    go-on (c .before .before .before .before .before .before .args .v .unheard) (byte (c .before .before .before .before .before .before))
+    (c .before .before .before .before .before .loop .u) (c .before .before .before .before .before .loop .inv) _
+    (c .before .next-inside .ensures) (c .if3 .left)
 
 loop-holds : tie.Need-loop-holds Inv-loop μ-loop
 loop-holds c = within-none _
@@ -37,8 +40,10 @@ remain-requires c κs = search needs
 returns : tie.Need-returns Inv-loop μ-loop
 returns c =
     let v = c .before .before .before .before .before .before .args .v in
-    λ e rows. none-left (c .before .before .before .before .before .before .args .table .now) (c .before .before .before .before .before .loop .u) (c .before .before .before .before .before .loop .inv)
-    (subst (AllStruck v (c .before .before .before .before .before .before .args .table .now)) (c .before .before .before .before .set-to .ensures .0) (c .before .remain .ensures (c .if2 .taken)))
+    λ e rows. none-left (c .before .before .before .before .before .before .args .table .now)
+    (c .before .before .before .before .before .loop .u) (c .before .before .before .before .before .loop .inv)
+    (subst (AllStruck v (c .before .before .before .before .before .before .args .table .now))
+    (c .before .before .before .before .set-to .ensures .0) (c .before .remain .ensures (c .if2 .taken)))
 
 next-inside-requires : tie.Need-next-inside-requires Inv-loop μ-loop
 next-inside-requires c κs = search needs

@@ -24,7 +24,9 @@ Inv-loop v moved c q₀ q = (q ≤ 6) × (anyBelow q (leads v moved c) ≡ false
 abbrev μ-loop : tie.MeasureT-loop
 μ-loop v moved c q₀ q = 6 - q
 
-passed : (c : tie.Joined1 Inv-loop μ-loop) → leads (c .before .before .before .before .args .v) (c .before .before .before .before .args .moved) (c .before .before .before .before .args .c) (c .before .before .before .loop .q) ≡ false
+passed : (c : tie.Joined1 Inv-loop μ-loop) → leads (c .before .before .before .before .args .v)
+    (c .before .before .before .before .args .moved) (c .before .before .before .before .args .c)
+    (c .before .before .before .loop .q) ≡ false
 passed c =
     let a = c .before .before .before .before .args in
     let q = c .before .before .before .loop .q in
@@ -55,7 +57,8 @@ returns c =
     let a = c .before .before .before .before .before .before .before .args in
     let there = ap (λ (m : ℕ). bit (a .moved) (bitXor (a .c) m % 64)) (c .before .before .letter-mask .ensures) in
     let found = any-make 6 (leads (a .v) (a .moved) (a .c)) (c .before .before .before .before .before .before .loop .q) (omega arith)
-    (and-make (sym (c .before .before .before .before .has .ensures) ∙ c .before .before .before .if1 .taken) (sym there ∙ sym (c .before .among .ensures) ∙ c .if2 .taken)) in
+    (and-make (sym (c .before .before .before .before .has .ensures) ∙ c .before .before .before .if1 .taken)
+    (sym there ∙ sym (c .before .among .ensures) ∙ c .if2 .taken)) in
     sym (rw found)
 
 add-q : tie.Need-add-q Inv-loop μ-loop
@@ -65,7 +68,11 @@ loop-less : tie.Need-loop-less Inv-loop μ-loop
 loop-less c = search needs
 
 loop-again : tie.Need-loop-again Inv-loop μ-loop
-loop-again c = (omega arith, any-next (leads (c .before .before .before .before .args .v) (c .before .before .before .before .args .moved) (c .before .before .before .before .args .c)) (c .before .before .before .loop .q) (c .before .before .before .loop .inv .1) (passed c))
+loop-again c = (
+  omega arith,
+  any-next (leads (c .before .before .before .before .args .v) (c .before .before .before .before .args .moved)
+      (c .before .before .before .before .args .c)) (c .before .before .before .loop .q) (c .before .before .before .loop .inv .1) (passed c),
+)
 
 among-requires-2 : tie.Need-among-requires-2 Inv-loop μ-loop
 among-requires-2 c κs = search needs

@@ -12,7 +12,8 @@ use Rattle.table.proofs.rounds.remain.Statement.{statement}
 use Rattle.table.proofs.rounds.remain.Tie as tie
 
 abbrev Inv-loop : tie.InvT-loop
-Inv-loop v table c count₀ d₀ count d = Within (v .undecided) d × (count ≡ 0 → Before (λ e. entry table (setTo c (v .undecided) e) 0 ≡ 255) (v .undecided) d)
+Inv-loop v table c count₀ d₀ count d = Within (v .undecided) d ×
+    (count ≡ 0 → Before (λ e. entry table (setTo c (v .undecided) e) 0 ≡ 255) (v .undecided) d)
 
 abbrev μ-loop : tie.MeasureT-loop
 μ-loop v table c count₀ d₀ count d = 256 - d
@@ -26,7 +27,8 @@ byte c = search needs
 
 -- where none is found up to here, all up to here are struck
 passed : (c : tie.Joined1 Inv-loop μ-loop) → c .if1 .count ≡ 0 →
-    Before (Gone (c .before .before .before .before)) (c .before .before .before .before .args .v .undecided) (c .before .before .before .loop .d) × Gone (c .before .before .before .before) (c .before .before .before .loop .d)
+    Before (Gone (c .before .before .before .before)) (c .before .before .before .before .args .v .undecided)
+    (c .before .before .before .loop .d) × Gone (c .before .before .before .before) (c .before .before .before .loop .d)
 passed c e =
     ⊎-elim
     (λ w. absurd (omega (arith, w .1)))
@@ -37,9 +39,12 @@ passed c e =
     (c .if1 .came)
 
 -- d was not the last
-behind : (c : tie.Else3 Inv-loop μ-loop) → Next (c .before .before .before .before .before .before .args .v .undecided) (c .before .before .before .before .before .loop .d)
+behind : (c : tie.Else3 Inv-loop μ-loop) → Next (c .before .before .before .before .before .before .args .v .undecided)
+    (c .before .before .before .before .before .loop .d)
 behind c =
-    next-mask (c .before .before .before .before .before .before .args .v .undecided) (byte (c .before .before .before .before .before .before)) (c .before .before .before .before .before .loop .d) (c .before .before .before .before .before .loop .inv .0)
+    next-mask (c .before .before .before .before .before .before .args .v .undecided)
+    (byte (c .before .before .before .before .before .before)) (c .before .before .before .before .before .loop .d)
+    (c .before .before .before .before .before .loop .inv .0)
     (λ e. c .if3 .left (c .before .next-inside .ensures ∙ e))
 
 loop-holds : tie.Need-loop-holds Inv-loop μ-loop
@@ -61,7 +66,9 @@ returns-2 : tie.Need-returns-2 Inv-loop μ-loop
 returns-2 c =
     λ e. let p = passed (c .before .before) e in
     record {
-      each = before-all (Gone (c .before .before .before .before .before .before)) (c .before .before .before .before .before .before .args .v .undecided) (byte (c .before .before .before .before .before .before)) (c .before .before .before .before .before .loop .d) (c .before .before .before .before .before .loop .inv .0) (p .0) (p .1)
+      each = before-all (Gone (c .before .before .before .before .before .before))
+          (c .before .before .before .before .before .before .args .v .undecided) (byte (c .before .before .before .before .before .before))
+          (c .before .before .before .before .before .loop .d) (c .before .before .before .before .before .loop .inv .0) (p .0) (p .1)
           (sym (c .before .next-inside .ensures) ∙ c .if3 .taken);
     }
 
@@ -73,8 +80,12 @@ loop-again c =
     let next = c .before .next-inside .ensures in (
       subst (Within (c .before .before .before .before .before .before .args .v .undecided)) (sym next) (behind c .within),
       λ e. let p = passed (c .before .before) e in
-          subst (Before (Gone (c .before .before .before .before .before .before)) (c .before .before .before .before .before .before .args .v .undecided)) (sym next)
-          (before-next (Gone (c .before .before .before .before .before .before)) (c .before .before .before .before .before .before .args .v .undecided) (byte (c .before .before .before .before .before .before)) (c .before .before .before .before .before .loop .d) (c .before .before .before .before .before .loop .inv .0) (p .0) (p .1)
+          subst (Before (Gone (c .before .before .before .before .before .before))
+          (c .before .before .before .before .before .before .args .v .undecided)) (sym next)
+          (before-next (Gone (c .before .before .before .before .before .before))
+          (c .before .before .before .before .before .before .args .v .undecided)
+          (byte (c .before .before .before .before .before .before)) (c .before .before .before .before .before .loop .d)
+          (c .before .before .before .before .before .loop .inv .0) (p .0) (p .1)
           (λ z. c .if3 .left (next ∙ z))),
     )
 

@@ -28,7 +28,8 @@ all-remain-requires c κs = search needs
 
 returns-2 : tie.Need-returns-2 Inv-loop μ-loop
 returns-2 c =
-    let t = join (c .before .before .before .before .before .before .before .loop .inv) (c .before .before .before .before .round .ensures) in
+    let t = join (c .before .before .before .before .before .before .before .loop .inv)
+    (c .before .before .before .before .round .ensures) in
     (t, λ e. lost-before t (c .before .all-remain .ensures (not-true (c .before .all-remain .result) (c .if2 .taken)) _))
 
 add-n : tie.Need-add-n Inv-loop μ-loop
@@ -38,7 +39,8 @@ loop-less : tie.Need-loop-less Inv-loop μ-loop
 loop-less c = search needs
 
 loop-again : tie.Need-loop-again Inv-loop μ-loop
-loop-again c = join (c .before .before .before .before .before .before .before .loop .inv) (c .before .before .before .before .round .ensures)
+loop-again c = join (c .before .before .before .before .before .before .before .loop .inv)
+    (c .before .before .before .before .round .ensures)
 
 returns-3 : tie.Need-returns-3 Inv-loop μ-loop
 returns-3 c = (c .before .loop .inv, λ e. clash refl e)

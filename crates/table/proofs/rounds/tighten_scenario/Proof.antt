@@ -16,9 +16,12 @@ abbrev μ-loop : tie.MeasureT-loop
 byte : (c : tie.Start Inv-loop μ-loop) → c .args .v .undecided < 256
 byte c = search needs
 
-further : (c : tie.Else1 Inv-loop μ-loop) → Within (c .before .before .before .before .before .before .args .v .undecided) (c .before .next-inside .result) × (c .before .before .before .before .before .loop .d < c .before .next-inside .result)
+further : (c : tie.Else1 Inv-loop μ-loop) → Within (c .before .before .before .before .before .before .args .v .undecided)
+    (c .before .next-inside .result) × (c .before .before .before .before .before .loop .d < c .before .next-inside .result)
 further c =
-    go-on (c .before .before .before .before .before .before .args .v .undecided) (byte (c .before .before .before .before .before .before)) (c .before .before .before .before .before .loop .d) (c .before .before .before .before .before .loop .inv .0) _ (c .before .next-inside .ensures) (c .if1 .left)
+    go-on (c .before .before .before .before .before .before .args .v .undecided)
+    (byte (c .before .before .before .before .before .before)) (c .before .before .before .before .before .loop .d)
+    (c .before .before .before .before .before .loop .inv .0) _ (c .before .next-inside .ensures) (c .if1 .left)
 
 loop-holds : tie.Need-loop-holds Inv-loop μ-loop
 loop-holds c = (within-none _, same-table)

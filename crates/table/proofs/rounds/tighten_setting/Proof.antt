@@ -29,7 +29,8 @@ keep-constraints-requires : tie.Need-keep-constraints-requires
 keep-constraints-requires c κs = search needs
 
 returns-4 : tie.Need-returns-4
-returns-4 c = join (c .before .before .before .before .before .before .before .before .flip-conditions .ensures _) (from-row (c .before .before .row-of .ensures) (c .keep-constraints .ensures))
+returns-4 c = join (c .before .before .before .before .before .before .before .before .flip-conditions .ensures _)
+    (from-row (c .before .before .row-of .ensures) (c .keep-constraints .ensures))
 
 pub tighten-setting-spec : {M : Type 1} → statement M
 tighten-setting-spec =

@@ -13,11 +13,13 @@ Inv-loop v rows s now₀ n₀ now n = Moves v rows s now₀ now
 abbrev μ-loop : tie.MeasureT-loop
 μ-loop v rows s now₀ n₀ now n = 600 - n
 
-moved : (c : tie.After-raise Inv-loop μ-loop) → Moves (c .before .before .before .args .v) (c .before .before .before .args .rows .now) (c .before .before .before .args .s) (c .before .before .before .args .slots) (c .raise .result)
+moved : (c : tie.After-raise Inv-loop μ-loop) → Moves (c .before .before .before .args .v) (c .before .before .before .args .rows .now)
+    (c .before .before .before .args .s) (c .before .before .before .args .slots) (c .raise .result)
 moved c =
     let a = c .before .before .before .args in
     move-on (c .before .before .loop .inv)
-    (subst (Moves (a .v) (a .rows .now) (a .s) (c .before .before .loop .now)) (sym (c .raise .ensures)) (raise-moves 255 (a .s) (c .before .before .loop .now)))
+    (subst (Moves (a .v) (a .rows .now) (a .s) (c .before .before .loop .now)) (sym (c .raise .ensures))
+    (raise-moves 255 (a .s) (c .before .before .loop .now)))
 
 loop-holds : tie.Need-loop-holds Inv-loop μ-loop
 loop-holds c = stay

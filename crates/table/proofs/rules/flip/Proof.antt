@@ -20,7 +20,9 @@ strike-requires : tie.Need-strike-requires
 strike-requires c κs = search needs
 
 returns-2 : tie.Need-returns-2
-returns-2 c = λ rows. flip-strike (c .before .before .before .before .before .before .before .flip-slot .ensures rows) (c .before .before .before .before .before .before .before .before .before .pre .3) (c .before .before .before .before .before .before .before .before .before .pre .4) (c .before .before .if2 .taken) (c .strike .ensures)
+returns-2 c = λ rows. flip-strike (c .before .before .before .before .before .before .before .flip-slot .ensures rows)
+    (c .before .before .before .before .before .before .before .before .before .pre .3)
+    (c .before .before .before .before .before .before .before .before .before .pre .4) (c .before .before .if2 .taken) (c .strike .ensures)
 
 place-requires : tie.Need-place-requires
 place-requires c κs = search needs
@@ -29,7 +31,10 @@ element-write-table : tie.Need-element-write-table
 element-write-table c = search needs
 
 returns-3 : tie.Need-returns-3
-returns-3 c = λ rows. flip-store (c .before .before .before .before .before .before .flip-slot .ensures rows) (c .before .before .before .before .before .before .before .before .pre .3) (c .before .before .before .before .before .before .before .before .pre .4) (c .before .before .before .before .before .before .before .before .pre .2) (c .place .ensures .0)
+returns-3 c = λ rows. flip-store (c .before .before .before .before .before .before .flip-slot .ensures rows)
+    (c .before .before .before .before .before .before .before .before .pre .3)
+    (c .before .before .before .before .before .before .before .before .pre .4)
+    (c .before .before .before .before .before .before .before .before .pre .2) (c .place .ensures .0)
 
 pub flip-spec : {M : Type 1} → statement M
 flip-spec =

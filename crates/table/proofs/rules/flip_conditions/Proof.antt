@@ -22,7 +22,12 @@ has-requires : tie.Need-has-requires Inv-loop μ-loop
 has-requires c κs = search needs
 
 flip-points-requires : tie.Need-flip-points-requires Inv-loop μ-loop
-flip-points-requires c κs = (c .before .before .before .before .before .pre, search needs, sym (c .before .before .has .ensures) ∙ c .before .if1 .taken)
+flip-points-requires c κs = (
+  c .before .before .before .before .before .pre,
+  search needs,
+  sym (c .before .before .has .ensures)
+      ∙ c .before .if1 .taken,
+)
 
 add-q : tie.Need-add-q Inv-loop μ-loop
 add-q c = search needs
@@ -33,8 +38,10 @@ loop-less c = search needs
 loop-again : tie.Need-loop-again Inv-loop μ-loop
 loop-again c =
     λ rows. ⊎-elim
-    (λ w. subst (Tighter (c .before .before .before .before .args .v) rows (c .before .before .before .before .args .table .now)) (sym (w .3)) (join (c .before .before .before .loop .inv rows) (w .2 .ensures rows)))
-    (λ w. subst (Tighter (c .before .before .before .before .args .v) rows (c .before .before .before .before .args .table .now)) (sym (w .1)) (c .before .before .before .loop .inv rows))
+    (λ w. subst (Tighter (c .before .before .before .before .args .v) rows (c .before .before .before .before .args .table .now))
+    (sym (w .3)) (join (c .before .before .before .loop .inv rows) (w .2 .ensures rows)))
+    (λ w. subst (Tighter (c .before .before .before .before .args .v) rows (c .before .before .before .before .args .table .now))
+    (sym (w .1)) (c .before .before .before .loop .inv rows))
     (c .if1 .came)
 
 returns : tie.Need-returns Inv-loop μ-loop

@@ -22,7 +22,8 @@ has-requires : tie.Need-has-requires Inv-loop μ-loop
 has-requires c κs = search needs
 
 flip-requires : tie.Need-flip-requires Inv-loop μ-loop
-flip-requires c κs = let p = c .before .before .before .before .before .pre in (p .0, p .1, search needs, p .2, sym (c .before .before .has .ensures) ∙ c .before .if1 .taken)
+flip-requires c κs = let p = c .before .before .before .before .before .pre in
+    (p .0, p .1, search needs, p .2, sym (c .before .before .has .ensures) ∙ c .before .if1 .taken)
 
 add-x : tie.Need-add-x Inv-loop μ-loop
 add-x c = search needs
@@ -33,8 +34,10 @@ loop-less c = search needs
 loop-again : tie.Need-loop-again Inv-loop μ-loop
 loop-again c =
     λ rows. ⊎-elim
-    (λ w. subst (Tighter (c .before .before .before .before .args .v) rows (c .before .before .before .before .args .table .now)) (sym (w .3)) (join (c .before .before .before .loop .inv rows) (w .2 .ensures rows)))
-    (λ w. subst (Tighter (c .before .before .before .before .args .v) rows (c .before .before .before .before .args .table .now)) (sym (w .1)) (c .before .before .before .loop .inv rows))
+    (λ w. subst (Tighter (c .before .before .before .before .args .v) rows (c .before .before .before .before .args .table .now))
+    (sym (w .3)) (join (c .before .before .before .loop .inv rows) (w .2 .ensures rows)))
+    (λ w. subst (Tighter (c .before .before .before .before .args .v) rows (c .before .before .before .before .args .table .now))
+    (sym (w .1)) (c .before .before .before .loop .inv rows))
     (c .if1 .came)
 
 returns : tie.Need-returns Inv-loop μ-loop

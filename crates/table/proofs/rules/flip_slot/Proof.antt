@@ -27,21 +27,33 @@ abbrev μ-loop : tie.MeasureT-loop
 byte : (c : tie.Start Inv-loop μ-loop) → c .args .t1 .undecided < 256
 byte c = search needs
 
--- the slot of the partner at hand is taken in
-entered : (c : tie.Else3 Inv-loop μ-loop) (v : View) → t.free (c .before .before .before .before .before .before .before .before .before .before .before .before .args .t1) (c .before .before .before .before .before .before .before .before .before .before .before .before .args .x) ≡ t.free v (c .before .before .before .before .before .before .before .before .before .before .before .before .args .x) →
-    bitXor (c .before .before .before .before .before .before .before .before .before .before .before .before .args .s) (c .before .before .before .before .before .letter-mask .result) ≡ bitXor (c .before .before .before .before .before .before .before .before .before .before .before .before .args .s) (2 ^ c .before .before .before .before .before .before .before .before .before .before .before .before .args .q) →
-    c .before .lesser .result
-    ≤ entry (c .before .before .before .before .before .before .before .before .before .before .before .before .args .table .now) (flipped v (c .before .before .before .before .before .before .before .before .before .before .before .before .args .s) (c .before .before .before .before .before .before .before .before .before .before .before .before .args .q) (c .before .before .before .before .before .before .before .before .before .before .before .before .args .x) (c .before .before .before .before .loop .d)) (c .before .before .before .before .before .before .before .before .before .before .before .before .args .x)
+-- where the function began, from where partner d was looked at
+abbrev begun : tie.Else3 Inv-loop μ-loop → tie.Start Inv-loop μ-loop
+begun c = c .before .before .before .before .before .before .before .before .before .before .before .before
+
+-- the partner's slot is taken in
+entered : (c : tie.Else3 Inv-loop μ-loop) (v : View) →
+    let a = begun c .args in
+    t.free (a .t1) (a .x) ≡ t.free v (a .x) → bitXor (a .s) (c .before .before .before .before .before .letter-mask .result) ≡ bitXor
+    (a .s) (2 ^ a .q) →
+    c .before .lesser .result ≤ entry (a .table .now) (flipped v (a .s) (a .q) (a .x) (c .before .before .before .before .loop .d)) (a .x)
 entered c v free turned =
-    let a = c .before .before .before .before .before .before .before .before .before .before .before .before .args in
-    let other : c .before .before .before .set-to .result ≡ flipped v (a .s) (a .q) (a .x) (c .before .before .before .before .loop .d)
-    = c .before .before .before .set-to .ensures .0 ∙ rw (turned, free) refl in
+    let a = begun c .args in
+    let d = c .before .before .before .before .loop .d in
+    let other : c .before .before .before .set-to .result ≡ flipped v (a .s) (a .q) (a .x) d
+    = c .before .before .before .set-to .ensures .0
+    ∙ ap (λ (s : ℕ). setTo s (t.free (a .t1) (a .x)) d) turned
+    ∙ ap (λ (set : ℕ). setTo (bitXor (a .s) (2 ^ a .q)) set d) free in
     let there = c .before .before .slot-at3 .ensures ∙ ap (λ (o : ℕ). entry (a .table .now) o (a .x)) other in
     subst (λ (m : ℕ). c .before .lesser .result ≤ m) there (c .before .lesser .ensures .1)
 
-behind : (c : tie.Else4 Inv-loop μ-loop) → Next (t.free (c .before .before .before .before .before .before .before .before .before .before .before .before .before .before .args .t1) (c .before .before .before .before .before .before .before .before .before .before .before .before .before .before .args .x)) (c .before .before .before .before .before .before .loop .d)
+-- d was not the last
+behind : (c : tie.Else4 Inv-loop μ-loop) →
+    let a = begun (c .before .before) .args in
+    Next (t.free (a .t1) (a .x)) (c .before .before .before .before .before .before .loop .d)
 behind c =
-    next-mask _ (c .before .before .before .before .before .before .loop .inv .0) (c .before .before .before .before .before .before .loop .d) (c .before .before .before .before .before .before .loop .inv .1) (λ e. c .if4 .left (c .before .next-inside .ensures ∙ e))
+    let l = c .before .before .before .before .before .before .loop in
+    next-mask _ (l .inv .0) (l .d) (l .inv .1) (λ e. c .if4 .left (c .before .next-inside .ensures ∙ e))
 
 slot-at-requires : tie.Need-slot-at-requires Inv-loop μ-loop
 slot-at-requires c κs = search needs
@@ -69,10 +81,16 @@ add-least c = search needs
 
 loop-holds : tie.Need-loop-holds Inv-loop μ-loop
 loop-holds c = (
-  free-byte (c .before .before .before .before .before .before .before .args .t1) (c .before .before .before .before .before .before .before .args .x) (byte (c .before .before .before .before .before .before .before)),
+  free-byte (c .before .before .before .before .before .before .before .args .t1)
+      (c .before .before .before .before .before .before .before .args .x) (byte (c .before .before .before .before .before .before .before)),
   within-none _,
-  λ v rows at free turned. seek-start v rows (c .before .before .before .before .before .before .before .args .table .now) (c .before .before .before .before .before .before .before .args .s) (c .before .before .before .before .before .before .before .args .q) (c .before .before .before .before .before .before .before .args .x) _
-      (ap (λ (n : ℕ). n + 1) (c .before .before .before .before .slot-at2 .ensures ∙ ap (entry (c .before .before .before .before .before .before .before .args .table .now) (c .before .before .before .before .before .before .before .args .s)) at)),
+  λ v rows at free turned. seek-start v rows (c .before .before .before .before .before .before .before .args .table .now)
+      (c .before .before .before .before .before .before .before .args .s)
+      (c .before .before .before .before .before .before .before .args .q)
+      (c .before .before .before .before .before .before .before .args .x) _
+      (ap (λ (n : ℕ). n + 1) (c .before .before .before .before .slot-at2 .ensures ∙ ap
+      (entry (c .before .before .before .before .before .before .before .args .table .now)
+      (c .before .before .before .before .before .before .before .args .s)) at)),
 )
 
 set-to-requires : tie.Need-set-to-requires Inv-loop μ-loop
@@ -96,7 +114,8 @@ returns-4 c =
     let l = c .before .before .before .before .before .before .loop in
     let a = c .before .before .before .before .before .before .before .before .before .before .before .before .before .before .args in
     let turned = ap (bitXor (a .s)) (c .before .before .before .before .before .before .before .letter-mask .ensures) in
-    seek-done v rows (a .table .now) (a .s) (a .q) (a .x) (l .least) (l .d) (c .before .before .before .lesser .result) (l .inv .2 v rows refl refl turned)
+    seek-done v rows (a .table .now) (a .s) (a .q) (a .x) (l .least) (l .d) (c .before .before .before .lesser .result)
+    (l .inv .2 v rows refl refl turned)
     (l .inv .1) (l .inv .0) (c .before .before .before .lesser .ensures .0) (entered (c .before .before) v refl turned)
     (sym (c .before .next-inside .ensures) ∙ c .if4 .taken)
 
@@ -110,9 +129,12 @@ loop-again c =
     let next = c .before .next-inside .ensures in (
       l .inv .0,
       subst (Within _) (sym next) (behind c .within),
-      λ v rows at free turned. subst (Seeking v rows (a .table .now) (a .s) (a .q) (a .x) (c .before .before .before .lesser .result)) (ap (λ (f : ℕ). nextInside f (l .d)) (sym free) ∙ sym next)
-          (seek-next v rows (a .table .now) (a .s) (a .q) (a .x) (l .least) (l .d) (c .before .before .before .lesser .result) (l .inv .2 v rows at free turned)
-          (subst (λ (f : ℕ). Within f (l .d)) free (l .inv .1)) (subst (λ (f : ℕ). f < 256) free (l .inv .0)) (c .before .before .before .lesser .ensures .0) (entered (c .before .before) v free turned)
+      λ v rows at free turned. subst (Seeking v rows (a .table .now) (a .s) (a .q) (a .x) (c .before .before .before .lesser .result))
+          (ap (λ (f : ℕ). nextInside f (l .d)) (sym free) ∙ sym next)
+          (seek-next v rows (a .table .now) (a .s) (a .q) (a .x) (l .least) (l .d) (c .before .before .before .lesser .result)
+          (l .inv .2 v rows at free turned)
+          (subst (λ (f : ℕ). Within f (l .d)) free (l .inv .1)) (subst (λ (f : ℕ). f < 256) free (l .inv .0))
+          (c .before .before .before .lesser .ensures .0) (entered (c .before .before) v free turned)
           (λ z. c .if4 .left (next ∙ ap (λ (f : ℕ). nextInside f (l .d)) free ∙ z))),
     )
 

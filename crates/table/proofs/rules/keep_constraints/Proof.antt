@@ -14,7 +14,8 @@ strike-requires : tie.Need-strike-requires
 strike-requires c κs = search needs
 
 returns : tie.Need-returns
-returns c = follows-strike (c .before .before .before .before .at-rest .ensures) (c .before .before .before .too-late .ensures (c .before .before .if1 .taken) _ _) (c .strike .ensures)
+returns c = follows-strike (c .before .before .before .before .at-rest .ensures)
+    (c .before .before .before .too-late .ensures (c .before .before .if1 .taken) _ _) (c .strike .ensures)
 
 put-row-requires : tie.Need-put-row-requires
 put-row-requires c κs = search needs
