@@ -1,11 +1,10 @@
-// The letters of a plan as masks: its conditions, its decisions, those that some points disclose.
+// The letters of a plan as masks: the conditions and the decisions that some points disclose.
 use crate::Letter;
 use crate::Plan;
 ghost use mathlib.Core.Path.{_≡_};
 ghost use mathlib.Core.Bool.{_&&_};
 ghost use lib.ListN.{getD};
 ghost use Rattle.network.specs.Mask.{bit, digit, mask};
-ghost use Rattle.network.specs.Network.{condition, decision};
 ghost use Rattle.plan.specs.Plan.{zeroLetter, letterAt, networkOf};
 ghost use Rattle.plan.specs.Letters.{ofKind, heardBy, settledBy};
 
@@ -56,26 +55,11 @@ fn disclosed(letters: [Letter; 6], points: u8) -> u8
 }
 
 // The letters of one kind that these points disclose. The letters alone are handed down: the record would be copied at every move.
-fn told(letters: [Letter; 6], count: u8, decided: bool, points: u8) -> u8
-    ensures { λ r. ⌜ ((p : Plan) → p .letters ≡ count → p .letter ≡ letters → r ≡ mask 6 (λ l. ofKind (networkOf p) decided l && bit points (networkOf p .disclosing l))) ⌝ }
+fn disclosed_of_kind(letters: [Letter; 6], count: u8, decided: bool, points: u8) -> u8
+    ensures { λ r. ⌜ ((p : Plan) → p .letters ≡ count → p .letter ≡ letters
+        → r ≡ mask 6 (λ l. ofKind (networkOf p) decided l && bit points (networkOf p .disclosing l))) ⌝ }
 {
     of_kind(letters, count, decided) & disclosed(letters, points)
-}
-
-// The plan's conditions, set by the world.
-pub fn conditions(plan: Plan) -> u8
-    ensures { λ r. ⌜ r ≡ mask 6 (condition (networkOf plan)) ⌝ }
-{
-    let letters = plan.letter;
-    of_kind(letters, plan.letters, false)
-}
-
-// The plan's decisions, set by the agent.
-pub fn decisions(plan: Plan) -> u8
-    ensures { λ r. ⌜ r ≡ mask 6 (decision (networkOf plan)) ⌝ }
-{
-    let letters = plan.letter;
-    of_kind(letters, plan.letters, true)
 }
 
 // The conditions that these points disclose: what is heard after a move that performs them.
@@ -83,7 +67,7 @@ pub fn heard(plan: Plan, points: u8) -> u8
     ensures { λ r. ⌜ r ≡ heardBy plan points ⌝ }
 {
     let letters = plan.letter;
-    told(letters, plan.letters, false, points)
+    disclosed_of_kind(letters, plan.letters, false, points)
 }
 
 // The decisions that these points disclose: those that a move with them may choose.
@@ -91,5 +75,5 @@ pub fn settled(plan: Plan, points: u8) -> u8
     ensures { λ r. ⌜ r ≡ settledBy plan points ⌝ }
 {
     let letters = plan.letter;
-    told(letters, plan.letters, true, points)
+    disclosed_of_kind(letters, plan.letters, true, points)
 }

@@ -4,11 +4,11 @@ use borrow.Author.Needs.{needs}
 use Rattle.plan.proofs.letters.settled.Statement.{statement}
 use Rattle.plan.proofs.letters.settled.Tie as tie
 
-told-requires : tie.Need-told-requires
-told-requires c κs = search needs
+disclosed-of-kind-requires : tie.Need-disclosed-of-kind-requires
+disclosed-of-kind-requires c κs = search needs
 
 returns : tie.Need-returns
-returns c = c .told .ensures (c .before .before .args .plan) refl refl
+returns c = c .disclosed-of-kind .ensures (c .before .before .args .plan) refl refl
 
 pub settled-spec : {M : Type 1} → statement M
-settled-spec = tie.close (tie.spec told-requires returns)
+settled-spec = tie.close (tie.spec disclosed-of-kind-requires returns)

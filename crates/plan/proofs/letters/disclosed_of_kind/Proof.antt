@@ -1,11 +1,11 @@
--- `told`: the letters of both masks. Only the checker need believe this file.
+-- `disclosed_of_kind`: the letters of both masks. Only the checker need believe this file.
 use borrow.Author.Needs.{needs}
 use Rattle.network.specs.Mask.{bit}
 use Rattle.network.proofs.MachineLaws.{and-masks}
 use Rattle.plan.specs.Plan.{networkOf}
 use Rattle.plan.specs.Letters.{ofKind}
-use Rattle.plan.proofs.letters.told.Statement.{statement}
-use Rattle.plan.proofs.letters.told.Tie as tie
+use Rattle.plan.proofs.letters.disclosed_of_kind.Statement.{statement}
+use Rattle.plan.proofs.letters.disclosed_of_kind.Tie as tie
 
 of-kind-requires : tie.Need-of-kind-requires
 of-kind-requires c κs = search needs
@@ -19,5 +19,5 @@ returns c p few same =
     rw (c .before .of-kind .ensures p few same, c .disclosed .ensures, ← same)
     (and-masks 6 (ofKind (networkOf p) (a .decided)) (λ l. bit (a .points) (networkOf p .disclosing l)))
 
-pub told-spec : {M : Type 1} → statement M
-told-spec = tie.close (tie.spec of-kind-requires disclosed-requires returns)
+pub disclosed-of-kind-spec : {M : Type 1} → statement M
+disclosed-of-kind-spec = tie.close (tie.spec of-kind-requires disclosed-requires returns)
