@@ -22,9 +22,14 @@ pub struct Expected {
 }
 
 pub fn expected(case: &Case) -> Expected {
+    expected_by(&Rules, case)
+}
+
+/// What another library answers and leaves.
+pub fn expected_by(library: &dyn Library, case: &Case) -> Expected {
     let mut after: Vec<Vec<u8>> = case.parts().iter().map(|(_, bytes)| bytes.to_vec()).collect();
     let mut lent: Vec<&mut [u8]> = after.iter_mut().map(|bytes| &mut bytes[..]).collect();
-    let answer = case.perform(&Rules, &mut lent);
+    let answer = case.perform(library, &mut lent);
     Expected { answer, after }
 }
 

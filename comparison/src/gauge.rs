@@ -1,4 +1,6 @@
-//! How many moves a search without memory tries: it keeps the comparison to plans that every search settles soon.
+//! How many moves a search tries that sees a constraint broken only when nothing about it is open: it keeps the comparison
+//! with the reference to plans that the reference settles soon. Neither the proved search nor the plain one needs that;
+//! tests/full.rs compares those two on plans of full size.
 
 use reference::plan::*;
 

@@ -11,6 +11,7 @@ pub mod expected;
 #[cfg(target_os = "linux")]
 pub mod fenced;
 pub mod gauge;
+pub mod growth;
 pub mod guarded;
 pub mod library;
 pub mod made;

@@ -81,9 +81,10 @@ pub fn tighten(random: &mut Random, plan: &mut Plan) {
     }
 }
 
-// ---- plans for the search ----
+// ---- plans whose search is compared with the reference's ----
 
-/// Is the plan settled within this many moves, also without memory?
+/// Is the plan settled within this many moves, by a search that gives up little? The reference's, which has a memo, then
+/// settles it soon.
 pub fn settled(plan: &Plan, budget: usize) -> bool {
     moves_tried(plan, budget).is_some()
 }
@@ -148,6 +149,40 @@ pub fn longest_plan(random: &mut Random) -> Plan {
     }
     let tree = bare_tree(&plan);
     fit(random, &plan, &tree, 64)
+}
+
+// ---- plans of full size, which the reference's search need not finish ----
+
+/// Eight points, many letters, horizon 63 or less: random constraints, the fewer the more often the plan can be won.
+pub fn large_plan(random: &mut Random) -> Plan {
+    let (horizon, letters) = (*random.pick(&[31, 47, 62, 63, 63]), random.byte(2, 6));
+    let constraints = *random.pick(&[4, 8, 12, 16, 24, 40, 64]);
+    random_plan(random, horizon, 8, letters, constraints)
+}
+
+/// Constraints that a random tree keeps, most of them just so; one time in two some of them no more.
+pub fn fitted_plan(random: &mut Random) -> Plan {
+    let (horizon, letters) = (random.byte(30, 63), random.byte(2, 6));
+    let bare = bare_plan(random, horizon, 8, letters);
+    let tree = random_tree(random, &bare, bare.all_points(), 0);
+    let constraints = random.byte(8, 64);
+    let mut plan = fit(random, &bare, &tree, constraints);
+    if random.one_in(2) {
+        (0..random.byte(1, 3)).for_each(|_| tighten(random, &mut plan));
+    }
+    plan
+}
+
+/// Every constraint has a label of up to three letters: what can be done depends on what is not yet known.
+pub fn labelled_plan(random: &mut Random) -> Plan {
+    let (horizon, letters) = (random.byte(30, 63), random.byte(3, 6));
+    let plan = bare_plan(random, horizon, 8, letters);
+    (0..random.byte(10, 64)).fold(plan, |plan, _| {
+        let (from, step) = (random.byte(0, 7), random.byte(1, 7));
+        let need = (0..3).fold(0, |need, _| need | 1 << random.byte(0, letters - 1));
+        let bound = random.number(-20, 20) as i16;
+        plan.with(Constraint { from, to: (from + step) % 8, bound, need, truth: random.mask(need) })
+    })
 }
 
 // ---- faulty records ----

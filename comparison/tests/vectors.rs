@@ -16,12 +16,12 @@ struct Vector {
 }
 
 fn folder() -> PathBuf {
-    PathBuf::from(env!("CARGO_MANIFEST_DIR")).join("../crates/vectors")
+    PathBuf::from(env!("CARGO_MANIFEST_DIR")).join("../crates/vectors/data")
 }
 
 fn vector(name: &str) -> Vector {
     let read = |ending: &str| {
-        let path = folder().join("data").join(format!("{name}.{ending}"));
+        let path = folder().join(format!("{name}.{ending}"));
         std::fs::read(&path).unwrap_or_else(|error| panic!("{}: {error}", path.display()))
     };
     Vector { name: name.to_string(), input: read("in"), output: read("out") }
@@ -29,24 +29,12 @@ fn vector(name: &str) -> Vector {
 
 /// All vectors of the folder.
 fn all() -> Vec<Vector> {
-    let entries = std::fs::read_dir(folder().join("data")).expect("the folder of vectors");
+    let entries = std::fs::read_dir(folder()).expect("the folder of vectors");
     let paths = entries.map(|entry| entry.expect("a file").path());
     let inputs = paths.filter(|path| path.extension().is_some_and(|ending| ending == "in"));
     let vectors: Vec<Vector> = inputs.map(|path| vector(&path.file_stem().unwrap().to_string_lossy())).collect();
     assert!(vectors.len() >= 210, "{} vectors", vectors.len());
     vectors
-}
-
-/// The names that the executed vectors have in `args`: those that today's search settles soon.
-fn named() -> Vec<String> {
-    let args = std::fs::read_to_string(folder().join("args")).expect("the list of vectors");
-    let names: Vec<String> = args.split_whitespace().filter_map(|word| word.strip_suffix(".in")).map(stem).collect();
-    assert!(names.len() >= 140, "{} names", names.len());
-    names
-}
-
-fn stem(path: &str) -> String {
-    path.rsplit('/').next().unwrap_or(path).to_string()
 }
 
 const GUARD: [u8; 64] = [0x5A; 64];
@@ -60,7 +48,7 @@ fn told(case: &Case, answer: usize, last: &[u8]) {
 
 #[test]
 fn the_program_answers_them() {
-    for Vector { input, output, .. } in named().iter().map(|name| vector(name)) {
+    for Vector { input, output, .. } in all() {
         let text = vec![0xEE; output.len() + 7];
         told(&Case::Answer { input, text }, output.len(), &[&output[..], &[0xEE; 7]].concat());
     }

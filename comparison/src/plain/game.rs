@@ -15,6 +15,16 @@ pub struct Position {
     pub slots: Slots,
 }
 
+/// The slots, with this slot given to each of these points.
+pub fn slots_after(mut slots: Slots, points: u8, slot: u8) -> Slots {
+    for (x, place) in slots.iter_mut().enumerate() {
+        if has(points, x as u8) {
+            *place = slot;
+        }
+    }
+    slots
+}
+
 impl Position {
     /// Before the first move.
     pub fn start(plan: &Plan) -> Position {
@@ -31,12 +41,7 @@ impl Position {
 
     /// After a legal move and its outcome.
     pub fn after(&self, v: Node, outcome: u8) -> Position {
-        let mut slots = self.slots;
-        for (x, slot) in slots.iter_mut().enumerate() {
-            if has(v.points, x as u8) {
-                *slot = v.slot;
-            }
-        }
+        let slots = slots_after(self.slots, v.points, v.slot);
         Position { earliest: v.slot + 1, left: self.left & !v.points, values: self.values | v.choices | outcome, slots }
     }
 }

@@ -40,3 +40,8 @@ pub fn next_inside(set: u8, mask: u8) -> Option<u8> {
     // adding 1 where every place outside the set is filled carries over those places
     (mask | !set).checked_add(1).map(|carried| carried & set)
 }
+
+/// The masks inside a set in their order, the empty one first.
+pub fn inside(set: u8) -> impl Iterator<Item = u8> {
+    std::iter::successors(Some(0), move |&mask| next_inside(set, mask))
+}

@@ -1,5 +1,5 @@
 //! The proved planner's algorithms in plain Rust: the same loops in the same order, module by module as in crates/.
-//! Nothing here is proved; tests/plain.rs compares it with the reference.
+//! Nothing here is proved; tests/plain.rs compares it with the reference, tests/full.rs with the proved library.
 
 pub mod answer_text;
 pub mod checker;
@@ -16,6 +16,7 @@ pub mod plan_text;
 pub mod pruning;
 pub mod run;
 pub mod search;
+pub mod table;
 pub mod tree;
 pub mod tree_text;
 pub mod turns;

@@ -1,27 +1,38 @@
-//! States of the game that are lost already. The search leaves them out.
+//! States of the game that are lost already, and slots before which no winning move performs a point: what the search
+//! leaves out.
 
-use super::game::Position;
-use super::masks::{has, outcomes};
-use super::plan::{Constraint, Plan};
+use super::constraints::Slots;
+use super::game::{slots_after, Position};
+use super::masks::outcomes;
+use super::plan::Plan;
+use super::table::View;
 use super::tree::Node;
 
-/// The letters that only points still left disclose: conditions not yet heard, decisions not yet made.
-fn unknown(plan: &Plan, left: u8) -> u8 {
-    plan.heard(left) | plan.settled(left)
-}
-
-/// Whether a constraint is broken, whatever comes: its points are performed, its letters known, and it is not kept.
-fn broken(c: &Constraint, at: &Position, unknown: u8) -> bool {
-    !has(at.left, c.from) && !has(at.left, c.to) && c.need & unknown == 0 && !c.kept(&at.slots, at.values)
+/// What the table of least slots needs to know of a position.
+fn view<'a>(plan: &'a Plan, at: &Position) -> View<'a> {
+    View {
+        plan,
+        left: at.left,
+        values: at.values,
+        unheard: plan.heard(at.left),
+        undecided: plan.settled(at.left),
+        low: slots_after(at.slots, at.left, at.earliest),
+        cap: slots_after(at.slots, at.left, plan.horizon),
+        own: std::array::from_fn(|x| plan.settled(1 << x)),
+    }
 }
 
 /// Says lost only where the remaining game cannot be won. Where it does not say so the game is tried.
 pub fn lost(plan: &Plan, at: &Position) -> bool {
-    let waiting = unknown(plan, at.left);
-    plan.used_constraints().iter().any(|c| broken(c, at, waiting))
+    view(plan, at).hopeless()
 }
 
 /// Whether the test says lost after some outcome of a legal move: then the move does not win.
 pub fn move_lost(plan: &Plan, at: &Position, v: Node) -> bool {
     outcomes(plan.heard(v.points)).any(|outcome| lost(plan, &at.after(v, outcome)))
+}
+
+/// For each point a slot before which no winning move performs it.
+pub fn soonest(plan: &Plan, at: &Position) -> Slots {
+    view(plan, at).soonest()
 }

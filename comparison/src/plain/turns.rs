@@ -4,18 +4,19 @@
 use super::constraints::all_kept;
 use super::game::Position;
 use super::masks::outcomes;
-use super::moves::legal_moves;
+use super::moves::timely_moves;
 use super::plan::Plan;
-use super::pruning::move_lost;
+use super::pruning::{move_lost, soonest};
 use super::tree::{Node, NODE_BYTES};
 
-/// The agent's turn: the first move from which the game can be won is written, its subtrees directly behind. The
-/// number of nodes written, or none where the game cannot be won.
+/// The agent's turn: the first move from which the game can be won is written, its subtrees directly behind. Moves that
+/// perform a point before its soonest slot do not win, and are left out. The number of nodes written, or none where the
+/// game cannot be won.
 pub fn agent(plan: &Plan, at: &Position, buf: &mut [u8]) -> Option<usize> {
     if at.left == 0 {
         return all_kept(plan, &at.slots, at.values).then_some(0);
     }
-    for v in legal_moves(plan, at) {
+    for v in timely_moves(plan, at, soonest(plan, at)) {
         if let Some(below) = world(plan, at, v, &mut buf[NODE_BYTES..]) {
             buf[..NODE_BYTES].copy_from_slice(&v.to_bytes());
             return Some(below + 1);

@@ -55,7 +55,7 @@ fn disclosed(letters: [Letter; 6], points: u8) -> u8
 }
 
 // The letters of one kind that these points disclose. The letters alone are handed down: the record would be copied at every move.
-fn disclosed_of_kind(letters: [Letter; 6], count: u8, decided: bool, points: u8) -> u8
+pub fn disclosed_of_kind(letters: [Letter; 6], count: u8, decided: bool, points: u8) -> u8
     ensures { λ r. ⌜ ((p : Plan) → p .letters ≡ count → p .letter ≡ letters
         → r ≡ mask 6 (λ l. ofKind (networkOf p) decided l && bit points (networkOf p .disclosing l))) ⌝ }
 {

@@ -343,8 +343,8 @@ module _ {v : View} {rows : List ℕ} where
   pub zeros-fit : (w : Win v rows) → Fits w (replicate 512 0)
   zeros-fit w s x on lt = rw (zeros 512 (s * 8 + x)) zero-le
 
-  pub no-win : {table : List ℕ} → Tighter v rows (replicate 512 0) table → Lost v rows table → ¬ Win v rows
-  no-win t l w = l .none w (t .fits w (zeros-fit w))
+  pub no-win : Lost v rows (replicate 512 0) → ¬ Win v rows
+  no-win l w = l .none w (zeros-fit w)
 
 module _ (v : View) (rows : List ℕ) where
   -- ---- the least slots in any setting

@@ -118,7 +118,8 @@ pub record Flipped (v : View) (rows table : List ℕ) (s q x r : ℕ) : Type 0 w
   pub below :
       (w : Win v rows) → Fits w table → w .settled s ≡ s → bit (v .unheard) q ≡ true → bit (v .left) x ≡ true → r ≤ w .time s x
 
--- The row of s has these slots, or stays as it is, or is in between; other rows stay.
+-- The row of s has these slots or earlier ones; where it has not, and in other rows, no entry rose. (Of what a table says too little only
+-- time is lost.)
 pub record Put (table after : List ℕ) (s : ℕ) (slots : List ℕ) : Type 0 where
   pub each :
       (r x : ℕ) → x < 8 → (entry after r x ≤ entry table r x) ⊎ ((r ≡ s) × (entry after r x ≤ getD slots x 0))

@@ -10,7 +10,7 @@ ghost use mathlib.Core.Bool.{true};
 ghost use mathlib.Core.List.{List};
 ghost use Prim.Native.Nat.{ℕ, _≤_, _<_};
 ghost use lib.ListN.{getD};
-ghost use Rattle.table.specs.Table.{Win, Below, Tighter, Soonest};
+ghost use Rattle.table.specs.Table.{Win, Below, Tighter, Lost, Soonest};
 
 // Every scenario: they are numbered below 64.
 const ALL_SCENARIOS: u64 = 18446744073709551615;
@@ -50,16 +50,16 @@ fn first_rows(v: View, rows: &[u16; 320], table: &mut [u8; 512])
     }
 }
 
-// The whole test: true where there is no win.
-pub fn hopeless(v: View, rows: &[u16; 320]) -> bool
-    ensures { λ r. ⌜ (r ≡ true → ¬ Win v (now (rows .entry))) ⌝ }
+// Both rules and probing, as far as they go. True only where no win is left.
+fn settle(v: View, rows: &[u16; 320], table: &mut [u8; 512]) -> bool
+    ensures { λ r. ⌜ Tighter v (now (rows .entry)) (now (table .entry)) (now (table .exit))
+        × (r ≡ true → Lost v (now (rows .entry)) (now (table .entry))) ⌝ }
 {
-    let mut table = [0u8; 512];
-    first_rows(v, rows, &mut table);
-    if !rounds::all_remain(v, &table, ALL_SCENARIOS) {
+    first_rows(v, rows, table);
+    if !rounds::all_remain(v, table, ALL_SCENARIOS) {
         return true;
     }
-    if !rounds::tighten(v, rows, &mut table, ALL_SCENARIOS) {
+    if !rounds::tighten(v, rows, table, ALL_SCENARIOS) {
         return true;
     }
     if v.unheard == 0 {
@@ -68,7 +68,15 @@ pub fn hopeless(v: View, rows: &[u16; 320]) -> bool
     if v.undecided == 0 {
         return false;
     }
-    probing::refutes(v, rows, &mut table)
+    probing::refutes(v, rows, table)
+}
+
+// The whole test: true only where there is no win.
+pub fn hopeless(v: View, rows: &[u16; 320]) -> bool
+    ensures { λ r. ⌜ (r ≡ true → ¬ Win v (now (rows .entry))) ⌝ }
+{
+    let mut table = [0u8; 512];
+    settle(v, rows, &mut table)
 }
 
 // The lesser of each two slots.
@@ -109,7 +117,6 @@ pub fn soonest(v: View, rows: &[u16; 320]) -> [u8; 8]
     ensures { λ r. ⌜ ((w : Win v (now (rows .entry))) (s : ℕ) → w .settled s ≡ s → Below w s r) ⌝ }
 {
     let mut table = [0u8; 512];
-    first_rows(v, rows, &mut table);
-    rounds::tighten(v, rows, &mut table, ALL_SCENARIOS);
+    settle(v, rows, &mut table);
     least_slots(v, &table)
 }

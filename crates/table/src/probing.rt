@@ -25,7 +25,7 @@ fn assume(v: View, table: &mut [u8; 512], s: u8)
     }
 }
 
-// Setting s is struck where no win that fits comes to it. Says whether it was.
+// Setting s is struck if assuming that a win comes to it leaves none. Says whether it was.
 fn probe(v: View, rows: &[u16; 320], table: &mut [u8; 512], s: u8) -> bool
     requires { ⌜ s < 64 ⌝ }
     ensures { λ r. ⌜ Tighter v (now (rows .entry)) (now (table .entry)) (now (table .exit)) ⌝ }
@@ -74,9 +74,10 @@ fn probe_each(v: View, rows: &[u16; 320], table: &mut [u8; 512]) -> u64
     }
 }
 
-// Probing to the end: true where no win is left.
+// Probing to the end: true only where no win is left.
 pub fn refutes(v: View, rows: &[u16; 320], table: &mut [u8; 512]) -> bool
-    ensures { λ r. ⌜ (r ≡ true → Lost v (now (rows .entry)) (now (table .entry))) ⌝ }
+    ensures { λ r. ⌜ Tighter v (now (rows .entry)) (now (table .entry)) (now (table .exit))
+        × (r ≡ true → Lost v (now (rows .entry)) (now (table .entry))) ⌝ }
 {
     let mut n: u32 = 0;
     while n < 4000 {

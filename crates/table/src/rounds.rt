@@ -140,7 +140,7 @@ pub fn all_remain(v: View, table: &[u8; 512], moved: u64) -> bool
     }
 }
 
-// Rounds until nothing changes. Says false where no win is left.
+// Rounds until nothing changes. Says false only where no win is left.
 pub fn tighten(v: View, rows: &[u16; 320], table: &mut [u8; 512], moved: u64) -> bool
     ensures { λ r. ⌜ Tighter v (now (rows .entry)) (now (table .entry)) (now (table .exit))
         × (r ≡ false → Lost v (now (rows .entry)) (now (table .entry))) ⌝ }

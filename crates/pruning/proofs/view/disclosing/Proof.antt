@@ -1,25 +1,31 @@
 -- `disclosing`: the entries passed are the letters' points. Only the checker need believe this file.
-use mathlib.Core.Path.{_≡_, ap, sym}
+use mathlib.Core.Path.{_≡_, refl}
 use Prim.Native.Nat.{_-_}
 use native.Mathlib.Omega.{arith}
-use borrow.Author.Needs.{needs}
-use Rattle.plan.specs.declared.Letter.{Letter}
-use Rattle.plan.specs.Plan.{letterAt}
+use lib.ListN.{getD}
+use Rattle.plan.specs.Plan.{zeroLetter}
 use Rattle.game.proofs.CodeLaws.{Filled, fill-start, fill-put, fill-end}
+use borrow.Author.Needs.{needs}
 use Rattle.pruning.proofs.view.disclosing.Statement.{statement}
 use Rattle.pruning.proofs.view.disclosing.Tie as tie
 
 abbrev Inv-loop : tie.InvT-loop
-Inv-loop plan out₀ l₀ out l = Filled 6 (λ i. letterAt plan i .point) out₀ l out
+Inv-loop entries out₀ l₀ out l = Filled 6 (λ i. getD entries i zeroLetter .point) out₀ l out
 
 abbrev μ-loop : tie.MeasureT-loop
-μ-loop plan out₀ l₀ out l = 6 - l
+μ-loop entries out₀ l₀ out l = 6 - l
 
 loop-holds : tie.Need-loop-holds Inv-loop μ-loop
 loop-holds c = fill-start (search needs)
 
-letter-at-requires : tie.Need-letter-at-requires Inv-loop μ-loop
-letter-at-requires c κs = search needs
+cast-letter : tie.Need-cast-letter Inv-loop μ-loop
+cast-letter c = search needs
+
+mul-letter : tie.Need-mul-letter Inv-loop μ-loop
+mul-letter c = search needs
+
+array-copy-out-letter : tie.Need-array-copy-out-letter Inv-loop μ-loop
+array-copy-out-letter c = search needs
 
 cast-out : tie.Need-cast-out Inv-loop μ-loop
 cast-out c = search needs
@@ -34,7 +40,7 @@ loop-less : tie.Need-loop-less Inv-loop μ-loop
 loop-less c = search needs
 
 loop-again : tie.Need-loop-again Inv-loop μ-loop
-loop-again c = fill-put _ (c .before .before .loop .inv) (omega arith) (ap (λ (l : Letter). l .point) (sym (c .letter-at .ensures)))
+loop-again c = fill-put _ (c .before .before .loop .inv) (omega arith) refl
 
 returns : tie.Need-returns Inv-loop μ-loop
 returns c =
@@ -50,7 +56,9 @@ disclosing-spec =
     Inv-loop
     μ-loop
     loop-holds
-    letter-at-requires
+    cast-letter
+    mul-letter
+    array-copy-out-letter
     cast-out
     array-write-out
     add-l

@@ -1,13 +1,14 @@
 -- `view`: what is called says it. Only the checker need believe this file.
+use mathlib.Core.Path.{refl}
 use borrow.Author.Needs.{needs}
 use Rattle.pruning.proofs.view.view.Statement.{statement}
 use Rattle.pruning.proofs.view.view.Tie as tie
 
-heard-requires : tie.Need-heard-requires
-heard-requires c κs = search needs
+disclosed-of-kind-requires : tie.Need-disclosed-of-kind-requires
+disclosed-of-kind-requires c κs = search needs
 
-settled-requires : tie.Need-settled-requires
-settled-requires c κs = search needs
+disclosed-of-kind-requires-2 : tie.Need-disclosed-of-kind-requires-2
+disclosed-of-kind-requires-2 c κs = search needs
 
 cast-slots-after : tie.Need-cast-slots-after
 cast-slots-after c = search needs
@@ -26,13 +27,13 @@ own-requires c κs = search needs
 
 returns : tie.Need-returns
 returns c =
-    let a = c .before .before .before .before .before .before .before .before .args in
-    let unheard = c .before .before .before .before .before .before .heard .ensures in
-    let undecided = c .before .before .before .before .before .settled .ensures in
+    let a = c .before .before .before .before .before .before .before .before .before .args in
+    let unheard = c .before .before .before .before .before .before .disclosed-of-kind .ensures (a .plan) refl refl in
+    let undecided = c .before .before .before .before .before .disclosed-of-kind2 .ensures (a .plan) refl refl in
     let low = c .before .before .before .slots-after .ensures in
     let cap = c .before .before .slots-after2 .ensures in
     let disclosing = c .before .disclosing .ensures in
-    let own = c .own .ensures in
+    let own = c .own .ensures (a .plan) refl refl in
     λ i. record {
       constraints = a .plan .constraints;
       points = a .plan .points;
@@ -50,8 +51,8 @@ pub view-spec : {M : Type 1} → statement M
 view-spec =
     tie.close
     (tie.spec
-    heard-requires
-    settled-requires
+    disclosed-of-kind-requires
+    disclosed-of-kind-requires-2
     cast-slots-after
     slots-after-requires
     slots-after-requires-2

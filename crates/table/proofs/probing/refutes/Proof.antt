@@ -21,7 +21,7 @@ probe-each-requires : tie.Need-probe-each-requires Inv-loop μ-loop
 probe-each-requires c κs = search needs
 
 returns : tie.Need-returns Inv-loop μ-loop
-returns c = λ e. clash e refl
+returns c = (join (c .before .before .before .before .loop .inv) (c .before .probe-each .ensures), λ e. clash e refl)
 
 tighten-requires : tie.Need-tighten-requires Inv-loop μ-loop
 tighten-requires c κs = search needs
@@ -29,8 +29,9 @@ tighten-requires c κs = search needs
 returns-2 : tie.Need-returns-2 Inv-loop μ-loop
 returns-2 c =
     let said = c .before .tighten in
-    λ e. lost-before (join (c .before .before .before .before .before .before .before .loop .inv)
-    (c .before .before .before .before .probe-each .ensures)) (said .ensures .1 (not-true (said .result) (c .if2 .taken)))
+    let probed = join (c .before .before .before .before .before .before .before .loop .inv)
+    (c .before .before .before .before .probe-each .ensures) in
+    (join probed (said .ensures .0), λ e. lost-before probed (said .ensures .1 (not-true (said .result) (c .if2 .taken))))
 
 add-n : tie.Need-add-n Inv-loop μ-loop
 add-n c = search needs
@@ -43,7 +44,7 @@ loop-again c = join (join (c .before .before .before .before .before .before .be
     (c .before .before .before .before .probe-each .ensures)) (c .before .tighten .ensures .0)
 
 returns-3 : tie.Need-returns-3 Inv-loop μ-loop
-returns-3 c = λ e. clash e refl
+returns-3 c = (c .before .loop .inv, λ e. clash e refl)
 
 pub refutes-spec : {M : Type 1} → statement M
 refutes-spec =
