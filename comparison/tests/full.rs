@@ -139,7 +139,7 @@ fn plans_that_grow() {
 }
 
 /// A decision that no crew may take makes all others early; that it may not, only probing finds. A filter of moves that
-/// does not probe tries 55,000 moves here.
+/// does not probe tries very many moves here.
 #[test]
 fn plans_in_which_the_filter_must_probe() {
     let mut tally = Tally::default();
