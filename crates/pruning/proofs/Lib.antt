@@ -2,3 +2,4 @@
 pub mod SettingLaws
 pub mod WinLaws
 pub mod MoveLaws
+pub mod OwnLaws

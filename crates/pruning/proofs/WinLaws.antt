@@ -8,7 +8,8 @@ use Prim.Native.Nat.{ℕ, _-_, _%_, _^_, _≤_, _<_}
 use native.Mathlib.Omega.{arith}
 use native.Mathlib.Nat.{mod-eq-of-lt, mod-le}
 use native.Mathlib.Decide.{decLt, ℕ-discrete}
-use lib.Bits.{bitAnd, bitXor, or-lt, and-le-l}
+use lib.Bits.{bitAnd, bitXor, or-lt}
+use lib.Dec.{eqb}
 use lib.ListN.{getD}
 use Rattle.network.specs.Mask.{bit, mask}
 use Rattle.network.specs.Network.{Network, condition, decision, conditionAt, decisionAt, slotsIn}
@@ -16,7 +17,7 @@ use Rattle.network.specs.Game.{State, Move, Kept, after}
 use Rattle.network.specs.Tree.{Tree, node, Sound}
 use Rattle.network.specs.FirstMoves.{CanBeWon, Winning}
 use Rattle.network.specs.Search.{firstTreeFrom}
-use Rattle.network.proofs.Booleans.{by-test, clash, and-left}
+use Rattle.network.proofs.Booleans.{by-test, clash, and-left, eqb-no}
 use Rattle.network.proofs.BelowLaws.{count-le}
 use Rattle.network.proofs.MaskLaws.{bit-mask, bit-mask-above, mask-lt}
 use Rattle.network.proofs.MachineLaws.{bit-and, bit-or, bit-not}
@@ -32,12 +33,13 @@ use Rattle.plan.proofs.PlanLaws.{network-of-well-formed}
 use Rattle.constraints.specs.Rows.{rowsSay}
 use Rattle.table.specs.declared.View.{View}
 use Rattle.table.specs.Table.{Within, setTo, unknown, free, flipped, Win, Below}
+use Rattle.table.proofs.TableLaws.{free-byte}
 use Rattle.table.proofs.SetToLaws.{part-within, set-to-bit, set-to-is}
 use Rattle.game.specs.declared.Position.{Position}
 use Rattle.game.specs.Position.{stateOf, Proper, slotsAfter}
 use Rattle.game.proofs.CodeLaws.{get-listed}
 use Rattle.game.proofs.PositionLaws.{value-is}
-use Rattle.pruning.specs.Pruning.{viewOf}
+use Rattle.pruning.specs.Pruning.{lettersAt, viewOf}
 use Rattle.pruning.proofs.SettingLaws.{power-other, flip-other, Won, final, unheard, undecided, settle, unheard-condition, undecided-decision, settled-unheard, settled-undecided, settled-known, settled-small, settled-path, settled-on, on-only, on-undecided, on-known, on-small, on-keeps, slot-past, slot-ahead, slot-flip}
 
 -- a mask of letters, of which there are at most six
@@ -91,7 +93,7 @@ module _ (p : Plan) (wf : WellFormed p) (at : Position) where
   undecided-byte : v .undecided < 256
   undecided-byte = let h = mask-lt 6 (decisionAt net (at .left)) in omega arith
 
-  own-is : (x : ℕ) → x < 8 → getD (v .own) x 0 ≡ settledBy p (2 ^ x)
+  own-is : (x : ℕ) → x < 8 → getD (v .own) x 0 ≡ lettersAt (p .letter) x
   own-is x lt = get-listed 0 8 _ x lt
 
   slots-after-is :
@@ -116,14 +118,10 @@ module _ (p : Plan) (wf : WellFormed p) (at : Position) where
         settled-by-is (at .left) l,
         d,
         own-is x hx,
-        bit-not 8 (settledBy p (2 ^ x)) l (let h = mask-lt 6 (decisionAt net (2 ^ x)) in omega arith) (omega arith),
-        settled-by-is (2 ^ x) l,
-        power-other x (net .disclosing l) ne,
-        and-false,
+        bit-not 8 (lettersAt (p .letter) x) l (let h = mask-lt 6 (λ k. eqb (letterAt p k .point) x) in omega arith) (omega arith),
+        bit-mask 6 (λ k. eqb (letterAt p k .point) x) l hl,
+        eqb-no (net .disclosing l) x ne,
       )) z)
-
-  free-byte : (x : ℕ) → free v x < 256
-  free-byte x = let h = and-le-l (v .undecided) (255 - getD (v .own) x 0) in let b = undecided-byte in omega arith
 
   -- ---- the win
 
@@ -164,7 +162,7 @@ module _ (p : Plan) (wf : WellFormed p) (at : Position) where
         let r = settle g (bitXor s (2 ^ q)) in
         flipped v s q x (bitAnd (free v x) r) ≡ r
     flip-is s q x on yq hx same =
-        set-to-is (free v x) (free-byte x) f (settle g f) (settled-small g f) (λ l lt z. by-test (unheard g l)
+        set-to-is (free v x) (free-byte v x undecided-byte) f (settle g f) (settled-small g f) (λ l lt z. by-test (unheard g l)
         (λ y. sym (settled-unheard g f l y))
         (λ n. flip-other s q l (other l n) ∙ by-test (undecided g l)
         (λ y. on-undecided g s on l y
@@ -247,7 +245,6 @@ module _ (p : Plan) (wf : WellFormed p) (at : Position) where
           some-point = wf .some-point;
           settled = settle g;
           time = time;
-          below = on-small g;
           from = λ s x on lt. from s x lt;
           upto = λ s x on lt. upto s x lt;
           small = λ x lt. small x (let few = wf .points in omega arith);

@@ -5,11 +5,11 @@ use plan::Plan;
 use plan::letters;
 use table::View;
 ghost use mathlib.Core.Path.{_≡_};
-ghost use Prim.Native.Nat.{_^_};
-ghost use lib.ListN.{getD};
+ghost use Prim.Native.Nat.{_^_, _<_};
+ghost use lib.Bits.{bitOr};
+ghost use lib.ListN.{getD, set};
 ghost use Rattle.plan.specs.Plan.{zeroLetter, listed};
-ghost use Rattle.plan.specs.Letters.{settledBy};
-ghost use Rattle.pruning.specs.Pruning.{viewOf};
+ghost use Rattle.pruning.specs.Pruning.{lettersAt, viewOf};
 
 // The disclosing point of each letter.
 fn disclosing(entries: [Letter; 6]) -> [u8; 6]
@@ -25,15 +25,29 @@ fn disclosing(entries: [Letter; 6]) -> [u8; 6]
     out
 }
 
-// The decisions that each point discloses.
-fn own(entries: [Letter; 6], count: u8) -> [u8; 8]
-    ensures { λ r. ⌜ ((p : Plan) → p .letters ≡ count → p .letter ≡ entries → r ≡ listed 8 (λ x. settledBy p (2 ^ x))) ⌝ }
+// The masks with letter l added at point x. Past the array nothing changes.
+fn with_letter(sets: [u8; 8], x: u8, l: u8) -> [u8; 8]
+    requires { ⌜ l < 6 ⌝ }
+    ensures { λ r. ⌜ r ≡ set sets x (bitOr (getD sets x 0) (2 ^ l)) ⌝ }
+{
+    let mut out = sets;
+    if x < 8 {
+        out[x as usize] = out[x as usize] | 1u8 << l;
+    }
+    out
+}
+
+// The letters that each point discloses, used or not.
+fn own(entries: [Letter; 6]) -> [u8; 8]
+    ensures { λ r. ⌜ r ≡ listed 8 (lettersAt entries) ⌝ }
 {
     let mut out = [0u8; 8];
-    let mut x: u8 = 0;
-    while x < 8 {
-        out[x as usize] = letters::disclosed_of_kind(entries, count, true, 1u8 << x);
-        x += 1;
+    let mut l: u8 = 0;
+    while l < 6 {
+        let letter = entries[l as usize];
+        let more = with_letter(out, letter.point, l);
+        out = more;
+        l += 1;
     }
     out
 }
@@ -55,6 +69,6 @@ pub fn view(plan: Plan, at: Position) -> View
         low: game::slots_after(slots, at.left, (at.earliest % 256) as u8),
         cap: game::slots_after(slots, at.left, plan.horizon),
         disclosing: disclosing(entries),
-        own: own(entries, plan.letters),
+        own: own(entries),
     }
 }

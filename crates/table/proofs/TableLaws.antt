@@ -3,20 +3,19 @@ use mathlib.Core.Path.{_≡_, refl, sym, ap, _∙_, subst}
 use mathlib.Core.Logic.{by-cases, _⊎_, inl, inr, ⊎-elim, _≢_}
 use mathlib.Core.Bool.{true}
 use mathlib.Core.List.{List, [], _∷_}
-use Prim.Native.Nat.{ℕ, zero, suc, _+_, _-_, _*_, _%_, _^_, _≤_, _<_, zero-le}
+use Prim.Native.Nat.{ℕ, zero, suc, _+_, _-_, _*_, _%_, _≤_, _<_, zero-le, min}
 use native.Mathlib.Omega.{arith}
-use native.Mathlib.Nat.{le-refl, le-trans}
+use native.Mathlib.Nat.{le-refl, le-trans, lt-of-le-of-lt}
 use native.Mathlib.Decide.{decLt, ℕ-discrete}
-use lib.Bits.{bitOr}
-use lib.ListN.{getD, set, replicate}
-use lib.Seq.{getD-set-other}
+use lib.Bits.{and-le-l}
+use lib.ListN.{length, getD, set, replicate}
+use lib.Seq.{getD-set-same, getD-set-other}
 use Rattle.network.specs.Mask.{bit}
 use Rattle.network.specs.Network.{slotsIn}
 use Rattle.network.specs.Network as net
 use Rattle.network.specs.Raise.{turns}
-use Rattle.network.proofs.Booleans.{clash, and-left}
-use Rattle.network.proofs.MaskLaws.{bit-zero, bit-above, bits-lt}
-use Rattle.network.proofs.MachineLaws.{bit-and, bit-or}
+use Rattle.network.proofs.Booleans.{clash}
+use Rattle.network.proofs.MaskLaws.{bit-zero, bit-above}
 use Rattle.network.proofs.RaiseLaws.{raised-below}
 use Rattle.masks.specs.Masks.{nextInside}
 use Rattle.masks.proofs.NextLaws.{Last, Next, next-inside-cases}
@@ -61,20 +60,9 @@ module _ (P : ℕ → Type 0) (set : ℕ) (byte : set < 256) (d : ℕ) (inside :
   pub before-all : nextInside set d ≡ 0 → (e : ℕ) → Within set e → P e
   before-all z e h = upto e h (last-mask set byte d inside z .none-greater e h)
 
--- two bytes together are a byte
-pub or-byte : (a b : ℕ) → a < 256 → b < 256 → bitOr a b < 256
-or-byte a b f g =
-    bits-lt 8 (bitOr a b) (λ i y. by-cases (decLt i 8)
-    (λ lt. lt)
-    (λ ge. clash (sym (bit-or a b i) ∙ y) (rw (bit-above 8 a i f (omega arith), bit-above 8 b i g (omega arith)) refl)))
-
 -- free decisions are a byte
 pub free-byte : (v : View) (x : ℕ) → v .undecided < 256 → free v x < 256
-free-byte v x h =
-    bits-lt 8 (free v x) (λ i y. by-cases (decLt i 8)
-    (λ lt. lt)
-    (λ ge. clash (and-left (bit (v .undecided) i) _ (sym (bit-and (v .undecided) (255 - getD (v .own) x 0) i) ∙ y))
-    (bit-above 8 (v .undecided) i h (omega arith))))
+free-byte v x h = lt-of-le-of-lt (and-le-l (v .undecided) (255 - getD (v .own) x 0)) h
 
 -- ---- stores
 
@@ -125,15 +113,16 @@ row-read t k s e (suc (suc (suc (suc (suc (suc zero)))))) h = ap (λ (n : ℕ). 
 row-read t k s e (suc (suc (suc (suc (suc (suc (suc zero))))))) h = ap (λ (n : ℕ). getD t n 0) (omega arith)
 row-read t k s e (suc (suc (suc (suc (suc (suc (suc (suc x)))))))) h = absurd (omega arith)
 
--- the first x of the slots are no later than either of two
-abbrev pub NoLater : List ℕ → List ℕ → List ℕ → ℕ → Type 0
-NoLater a b out x = (i : ℕ) → i < x → (getD out i 0 ≤ getD a i 0) × (getD out i 0 ≤ getD b i 0)
+-- the first x of the slots are the lesser of two
+abbrev pub Lesser : List ℕ → List ℕ → List ℕ → ℕ → Type 0
+Lesser a b out x = (i : ℕ) → i < x → getD out i 0 ≡ min (getD a i 0) (getD b i 0)
 
-pub no-later-next :
-    (a b out : List ℕ) (x m : ℕ) → NoLater a b out x → m ≤ getD a x 0 → m ≤ getD b x 0 → NoLater a b (set out x m) (x + 1)
-no-later-next a b out x m h f g i lt =
+pub lesser-next :
+    (a b out : List ℕ) (x m : ℕ) → Lesser a b out x → x < length out → m ≡ min (getD a x 0) (getD b x 0) →
+    Lesser a b (set out x m) (x + 1)
+lesser-next a b out x m h inside e i lt =
     by-cases (ℕ-discrete i x)
-    (λ e. let le = getD-set-le out x m in rw e (omega arith, omega arith))
+    (λ q. rw (q, getD-set-same out x m 0 inside) e)
     (λ n. rw (getD-set-other out x i m 0 n) (h i (omega arith)))
 
 module _ {v : View} {rows : List ℕ} (w : Win v rows) where

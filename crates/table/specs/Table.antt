@@ -51,7 +51,6 @@ pub record Win (v : View) (rows : List ℕ) : Type 0 where
   pub settled : ℕ → ℕ
   -- the slots in a setting that is come to
   pub time : ℕ → Schedule
-  pub below : (s : ℕ) → settled s ≡ s → s < 64
   pub from : (s x : ℕ) → settled s ≡ s → x < v .points → getD (v .low) x 0 ≤ time s x
   pub upto : (s x : ℕ) → settled s ≡ s → x < v .points → time s x ≤ getD (v .cap) x 0
   pub small : (x : ℕ) → x < v .points → getD (v .cap) x 0 < 255

@@ -1,7 +1,7 @@
 // Settings of the letters, and the rows of the table: one for each setting, with a slot for each of eight points.
 ghost use mathlib.Core.Path.{_≡_};
-ghost use mathlib.Core.Bool.{true};
-ghost use Prim.Native.Nat.{ℕ, _+_, _*_, _≤_, _<_};
+ghost use Prim.Native.Nat.{ℕ, min, _+_, _*_, _<_};
+ghost use lib.Dec.{eqb};
 ghost use lib.ListN.{getD, replicate};
 ghost use Rattle.table.specs.Table.{setTo, entry, Put};
 
@@ -70,14 +70,14 @@ pub fn strike(table: &mut [u8; 512], s: u8)
 // Whether setting s is struck.
 pub fn struck(table: &[u8; 512], s: u8) -> bool
     requires { ⌜ s < 64 ⌝ }
-    ensures { λ r. ⌜ (r ≡ true → entry (now (table .entry)) s 0 ≡ 255) ⌝ }
+    ensures { λ r. ⌜ r ≡ eqb (entry (now (table .entry)) s 0) 255 ⌝ }
 {
     slot_at(table, s, 0) == 255
 }
 
 // The lesser of two slots.
 pub fn lesser(a: u8, b: u8) -> u8
-    ensures { λ r. ⌜ (r ≤ a) × (r ≤ b) ⌝ }
+    ensures { λ r. ⌜ r ≡ min a b ⌝ }
 {
     if a <= b { a } else { b }
 }

@@ -8,7 +8,7 @@ pub mod rules;
 ghost use mathlib.Core.Path.{_≡_};
 ghost use mathlib.Core.Bool.{true};
 ghost use mathlib.Core.List.{List};
-ghost use Prim.Native.Nat.{ℕ, _≤_, _<_};
+ghost use Prim.Native.Nat.{ℕ, min, _<_};
 ghost use lib.ListN.{getD};
 ghost use Rattle.table.specs.Table.{Win, Below, Tighter, Lost, Soonest};
 
@@ -81,7 +81,7 @@ pub fn hopeless(v: View, rows: &[u16; 320]) -> bool
 
 // The lesser of each two slots.
 fn lesser_slots(a: [u8; 8], b: [u8; 8]) -> [u8; 8]
-    ensures { λ r. ⌜ ((x : ℕ) → x < 8 → (getD r x 0 ≤ getD a x 0) × (getD r x 0 ≤ getD b x 0)) ⌝ }
+    ensures { λ r. ⌜ ((x : ℕ) → x < 8 → getD r x 0 ≡ min (getD a x 0) (getD b x 0)) ⌝ }
 {
     let mut out = a;
     let mut x: u8 = 0;

@@ -1,8 +1,9 @@
 -- `first_rows`: one setting after the other. Only the checker need believe this file.
 use Prim.Native.Nat.{_-_, _<_}
 use native.Mathlib.Omega.{arith}
+use lib.Bits.{or-lt}
 use Rattle.table.specs.Table.{Within, unknown, Tighter}
-use Rattle.table.proofs.TableLaws.{within-none, or-byte, go-on, same-table, join, from-low}
+use Rattle.table.proofs.TableLaws.{within-none, go-on, same-table, join, from-low}
 use borrow.Author.Needs.{needs}
 use Rattle.table.proofs.first_rows.Statement.{statement}
 use Rattle.table.proofs.first_rows.Tie as tie
@@ -29,7 +30,7 @@ further c =
     (c .before .before .before .before .before .loop .inv .1) _ (c .before .next-inside .ensures) (c .if1 .left)
 
 loop-holds : tie.Need-loop-holds Inv-loop μ-loop
-loop-holds c = (or-byte _ _ (byte (c .before .before) .0) (byte (c .before .before) .1), within-none _, same-table)
+loop-holds c = (or-lt 8 _ _ (byte (c .before .before) .0) (byte (c .before .before) .1), within-none _, same-table)
 
 set-to-requires : tie.Need-set-to-requires Inv-loop μ-loop
 set-to-requires c κs = search needs

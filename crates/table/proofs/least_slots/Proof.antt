@@ -3,9 +3,11 @@ use mathlib.Core.Path.{sym, ap, _∙_, subst}
 use mathlib.Core.List.{List}
 use Prim.Native.Nat.{ℕ, _-_, _≤_, _<_}
 use native.Mathlib.Omega.{arith}
+use native.Mathlib.Nat.{min-le-left, min-le-right}
+use lib.Bits.{or-lt}
 use lib.ListN.{getD}
 use Rattle.table.specs.Table.{Within, unknown, entry}
-use Rattle.table.proofs.TableLaws.{within-none, or-byte, go-on, Before, before-next, before-all, BelowAt, below-lesser, below-row, soonest-all}
+use Rattle.table.proofs.TableLaws.{within-none, go-on, Before, before-next, before-all, BelowAt, below-lesser, below-row, soonest-all}
 use borrow.Author.Needs.{needs}
 use Rattle.table.proofs.least_slots.Statement.{statement}
 use Rattle.table.proofs.least_slots.Tie as tie
@@ -34,7 +36,7 @@ passed : (c : tie.After-lesser-slots Inv-loop μ-loop) (rows : List ℕ) →
 passed c rows e h lt =
     below-lesser (c .before .before .before .before .before .args .v) rows (c .before .before .before .before .before .args .table .now)
     (c .before .before .before .loop .least) (c .lesser-slots .result) e
-    (λ x less. c .lesser-slots .ensures x less .0) (c .before .before .before .loop .inv .2 rows e h lt)
+    (λ x less. rw (c .lesser-slots .ensures x less) (min-le-left _ _)) (c .before .before .before .loop .inv .2 rows e h lt)
 
 here : (c : tie.After-lesser-slots Inv-loop μ-loop) (rows : List ℕ) → BelowAt (c .before .before .before .before .before .args .v) rows
     (c .before .before .before .before .before .args .table .now) (c .lesser-slots .result) (c .before .before .before .loop .u)
@@ -43,10 +45,10 @@ here c rows =
     (c .lesser-slots .result) (c .before .before .before .loop .u)
     (λ x less. subst (λ (m : ℕ). getD (c .lesser-slots .result) x 0 ≤ m)
     (c .before .row-of .ensures x less ∙ ap (λ (s : ℕ). entry (c .before .before .before .before .before .args .table .now) s x)
-    (c .before .before .set-to .ensures .0)) (c .lesser-slots .ensures x less .1))
+    (c .before .before .set-to .ensures .0)) (rw (c .lesser-slots .ensures x less) (min-le-right _ _)))
 
 loop-holds : tie.Need-loop-holds Inv-loop μ-loop
-loop-holds c = (or-byte _ _ (byte (c .before) .0) (byte (c .before) .1), within-none _, λ rows e h lt. absurd (omega arith))
+loop-holds c = (or-lt 8 _ _ (byte (c .before) .0) (byte (c .before) .1), within-none _, λ rows e h lt. absurd (omega arith))
 
 set-to-requires : tie.Need-set-to-requires Inv-loop μ-loop
 set-to-requires c κs = search needs

@@ -1,19 +1,21 @@
--- `lesser_slots`: the slots passed are no later than either. Only the checker need believe this file.
+-- `lesser_slots`: the slots passed are the lesser of the two. Only the checker need believe this file.
+use mathlib.Core.Path.{_≡_, _∙_}
 use Prim.Native.Nat.{_-_, _≤_}
-use Rattle.table.proofs.TableLaws.{NoLater, no-later-next}
+use lib.ListN.{length, length-set}
+use Rattle.table.proofs.TableLaws.{Lesser, lesser-next}
 use native.Mathlib.Omega.{arith}
 use borrow.Author.Needs.{needs}
 use Rattle.table.proofs.lesser_slots.Statement.{statement}
 use Rattle.table.proofs.lesser_slots.Tie as tie
 
 abbrev Inv-loop : tie.InvT-loop
-Inv-loop a b out₀ x₀ out x = (x ≤ 8) × NoLater a b out x
+Inv-loop a b out₀ x₀ out x = (x ≤ 8) × (length out ≡ 8) × Lesser a b out x
 
 abbrev μ-loop : tie.MeasureT-loop
 μ-loop a b out₀ x₀ out x = 8 - x
 
 loop-holds : tie.Need-loop-holds Inv-loop μ-loop
-loop-holds c = (omega arith, λ i lt. absurd (omega arith))
+loop-holds c = (omega arith, search needs, λ i lt. absurd (omega arith))
 
 cast-lesser : tie.Need-cast-lesser Inv-loop μ-loop
 cast-lesser c = search needs
@@ -44,15 +46,17 @@ loop-less c = search needs
 
 loop-again : tie.Need-loop-again Inv-loop μ-loop
 loop-again c =
-    let a = c .before .before .before .args in (
+    let a = c .before .before .before .args in
+    let l = c .before .before .loop in
+    let long = l .inv .1 in (
       omega arith,
-      no-later-next (a .t1) (a .t2) (c .before .before .loop .out) (c .before .before .loop .x) (c .lesser .result)
-          (c .before .before .loop .inv .1) (c .lesser .ensures .0) (c .lesser .ensures .1),
+      length-set (l .out) (l .x) _ ∙ long,
+      lesser-next (a .t1) (a .t2) (l .out) (l .x) (c .lesser .result) (l .inv .2) (omega arith) (c .lesser .ensures),
     )
 
 returns : tie.Need-returns Inv-loop μ-loop
 returns c =
-    λ i lt. c .before .loop .inv .1 i (omega arith)
+    λ i lt. c .before .loop .inv .2 i (omega arith)
 
 pub lesser-slots-spec : {M : Type 1} → statement M
 lesser-slots-spec =

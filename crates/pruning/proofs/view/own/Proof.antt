@@ -1,54 +1,53 @@
--- `own`: the entries passed are the decisions of the points. Only the checker need believe this file.
-use mathlib.Core.Path.{_≡_, sym, ap, _∙_}
-use Prim.Native.Nat.{_-_, _^_}
+-- `own`: letter by letter. Only the checker need believe this file.
+use mathlib.Core.Path.{_≡_, refl, sym, subst}
+use mathlib.Core.List.{List}
+use Prim.Native.Nat.{ℕ, _+_, _-_}
 use native.Mathlib.Omega.{arith}
-use Rattle.network.proofs.MachineLaws.{one-shifted}
-use Rattle.plan.specs.declared.Plan.{Plan}
-use Rattle.plan.specs.Letters.{settledBy}
-use Rattle.game.proofs.CodeLaws.{Filled, fill-start, fill-put, fill-end}
+use Rattle.plan.proofs.SliceLaws.{all-same}
+use Rattle.pruning.proofs.OwnLaws.{Gathered, gathered-start, gathered-next, gathered-all}
 use borrow.Author.Needs.{needs}
 use Rattle.pruning.proofs.view.own.Statement.{statement}
 use Rattle.pruning.proofs.view.own.Tie as tie
 
 abbrev Inv-loop : tie.InvT-loop
-Inv-loop entries count out₀ x₀ out x = (p : Plan) → p .letters ≡ count → p .letter ≡ entries → Filled 8 (λ i. settledBy p (2 ^ i)) out₀ x out
+Inv-loop entries out₀ l₀ out l = Gathered entries out l
 
 abbrev μ-loop : tie.MeasureT-loop
-μ-loop entries count out₀ x₀ out x = 8 - x
+μ-loop entries out₀ l₀ out l = 6 - l
 
 loop-holds : tie.Need-loop-holds Inv-loop μ-loop
-loop-holds c = λ p n e. fill-start (search needs)
+loop-holds c = gathered-start _ _ (search needs) (all-same {E = ℕ} 8 0)
 
-shl-disclosed-of-kind : tie.Need-shl-disclosed-of-kind Inv-loop μ-loop
-shl-disclosed-of-kind c = search needs
+cast-letter : tie.Need-cast-letter Inv-loop μ-loop
+cast-letter c = search needs
 
-disclosed-of-kind-requires : tie.Need-disclosed-of-kind-requires Inv-loop μ-loop
-disclosed-of-kind-requires c κs = search needs
+mul-letter : tie.Need-mul-letter Inv-loop μ-loop
+mul-letter c = search needs
 
-cast-out : tie.Need-cast-out Inv-loop μ-loop
-cast-out c = search needs
+array-copy-out-letter : tie.Need-array-copy-out-letter Inv-loop μ-loop
+array-copy-out-letter c = search needs
 
-array-write-out : tie.Need-array-write-out Inv-loop μ-loop
-array-write-out c = search needs
+with-letter-requires : tie.Need-with-letter-requires Inv-loop μ-loop
+with-letter-requires c κs = search needs
 
-add-x : tie.Need-add-x Inv-loop μ-loop
-add-x c = search needs
+add-l : tie.Need-add-l Inv-loop μ-loop
+add-l c = search needs
 
 loop-less : tie.Need-loop-less Inv-loop μ-loop
 loop-less c = search needs
 
 loop-again : tie.Need-loop-again Inv-loop μ-loop
 loop-again c =
-    let call = c .disclosed-of-kind in
-    λ p n e. fill-put _ (c .before .before .loop .inv p n e) (omega arith)
-    (sym (call .ensures p n e ∙ ap (settledBy p) (one-shifted (c .before .before .loop .x) (omega arith))))
+    let l = c .before .before .before .loop in
+    subst (λ (s : List ℕ). Gathered (c .before .before .before .before .args .t1) s (l .l + 1)) (sym (c .with-letter .ensures))
+    (gathered-next (c .before .before .before .before .args .t1) (l .out) (l .l) _ refl (l .inv) (omega arith))
 
 returns : tie.Need-returns Inv-loop μ-loop
 returns c =
-    λ p n e. let i = c .before .loop .inv p n e in
-    let w = i .within in
-    let end : c .before .loop .x ≡ 8 = omega arith in
-    fill-end (rw end at i)
+    let l = c .before .loop in
+    let few = l .inv .few in
+    let e : l .l ≡ 6 = omega arith in
+    gathered-all (c .before .before .args .t1) (l .out) (subst (Gathered (c .before .before .args .t1) (l .out)) e (l .inv))
 
 pub own-spec : {M : Type 1} → statement M
 own-spec =
@@ -57,11 +56,11 @@ own-spec =
     Inv-loop
     μ-loop
     loop-holds
-    shl-disclosed-of-kind
-    disclosed-of-kind-requires
-    cast-out
-    array-write-out
-    add-x
+    cast-letter
+    mul-letter
+    array-copy-out-letter
+    with-letter-requires
+    add-l
     loop-less
     loop-again
     returns)

@@ -33,7 +33,7 @@ returns c =
     let low = c .before .before .before .slots-after .ensures in
     let cap = c .before .before .slots-after2 .ensures in
     let disclosing = c .before .disclosing .ensures in
-    let own = c .own .ensures (a .plan) refl refl in
+    let own = c .own .ensures in
     λ i. record {
       constraints = a .plan .constraints;
       points = a .plan .points;

@@ -1,8 +1,9 @@
 -- `probe_each`: the table tightens with each setting. Only the checker need believe this file.
 use Prim.Native.Nat.{_-_, _<_}
 use native.Mathlib.Omega.{arith}
+use lib.Bits.{or-lt}
 use Rattle.table.specs.Table.{Within, unknown, Tighter}
-use Rattle.table.proofs.TableLaws.{within-none, or-byte, go-on, same-table, join}
+use Rattle.table.proofs.TableLaws.{within-none, go-on, same-table, join}
 use borrow.Author.Needs.{needs}
 use Rattle.table.proofs.probing.probe_each.Statement.{statement}
 use Rattle.table.proofs.probing.probe_each.Tie as tie
@@ -24,7 +25,7 @@ further c =
     (c .before .before .before .before .before .loop .inv .1) _ (c .before .next-inside .ensures) (c .if1 .left)
 
 loop-holds : tie.Need-loop-holds Inv-loop μ-loop
-loop-holds c = (or-byte _ _ (byte (c .before) .0) (byte (c .before) .1), within-none _, same-table)
+loop-holds c = (or-lt 8 _ _ (byte (c .before) .0) (byte (c .before) .1), within-none _, same-table)
 
 set-to-requires : tie.Need-set-to-requires Inv-loop μ-loop
 set-to-requires c κs = search needs

@@ -1,9 +1,10 @@
 -- `remain`: while none is found, those passed are struck. Only the checker need believe this file.
 use mathlib.Core.Path.{_≡_, sym, _∙_, subst}
 use mathlib.Core.Logic.{⊎-elim}
+use mathlib.Core.Bool.{true}
 use Prim.Native.Nat.{ℕ, _-_, _<_}
 use native.Mathlib.Omega.{arith}
-use Rattle.network.proofs.Booleans.{not-false}
+use Rattle.network.proofs.Booleans.{not-false, eqb-is}
 use Rattle.masks.proofs.NextLaws.{Next}
 use Rattle.table.specs.Table.{Within, setTo, entry}
 use Rattle.table.proofs.TableLaws.{within-none, next-mask, Before, before-next, before-all}
@@ -25,6 +26,11 @@ Gone c d = entry (c .args .table .now) (setTo (c .args .c) (c .args .v .undecide
 byte : (c : tie.Start Inv-loop μ-loop) → c .args .v .undecided < 256
 byte c = search needs
 
+-- a struck setting starts with 255
+first-none : (c : tie.After-struck Inv-loop μ-loop) → c .struck .result ≡ true →
+    entry (c .before .before .before .args .table .now) (c .before .set-to .result) 0 ≡ 255
+first-none c e = eqb-is _ 255 (sym (c .struck .ensures) ∙ e)
+
 -- where none is found up to here, all up to here are struck
 passed : (c : tie.Joined1 Inv-loop μ-loop) → c .if1 .count ≡ 0 →
     Before (Gone (c .before .before .before .before)) (c .before .before .before .before .args .v .undecided)
@@ -34,7 +40,7 @@ passed c e =
     (λ w. absurd (omega (arith, w .1)))
     (λ w. (
       c .before .before .before .loop .inv .1 (omega (arith, w .1)),
-      rw (← c .before .before .set-to .ensures .0) (c .before .struck .ensures (not-false _ (w .0 .left))),
+      rw (← c .before .before .set-to .ensures .0) (first-none (c .before) (not-false _ (w .0 .left))),
     ))
     (c .if1 .came)
 

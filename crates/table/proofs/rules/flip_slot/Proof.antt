@@ -3,6 +3,7 @@ use mathlib.Core.Path.{_≡_, refl, sym, ap, _∙_, subst}
 use mathlib.Core.List.{List}
 use Prim.Native.Nat.{ℕ, _+_, _-_, _%_, _^_, _≤_, _<_}
 use native.Mathlib.Omega.{arith}
+use native.Mathlib.Nat.{min-le-left, min-le-right}
 use lib.Bits.{bitXor}
 use lib.ListN.{getD}
 use Rattle.masks.specs.Masks.{nextInside}
@@ -31,6 +32,11 @@ byte c = search needs
 abbrev begun : tie.Else3 Inv-loop μ-loop → tie.Start Inv-loop μ-loop
 begun c = c .before .before .before .before .before .before .before .before .before .before .before .before
 
+-- the least slot is no later than it was, nor than the partner's
+no-later : (c : tie.Else3 Inv-loop μ-loop) →
+    (c .before .lesser .result ≤ c .before .before .before .before .loop .least) × (c .before .lesser .result ≤ c .before .before .slot-at3 .result)
+no-later c = rw (c .before .lesser .ensures) (min-le-left _ _, min-le-right _ _)
+
 -- the partner's slot is taken in
 entered : (c : tie.Else3 Inv-loop μ-loop) (v : View) →
     let a = begun c .args in
@@ -45,7 +51,7 @@ entered c v free turned =
     ∙ ap (λ (s : ℕ). setTo s (t.free (a .t1) (a .x)) d) turned
     ∙ ap (λ (set : ℕ). setTo (bitXor (a .s) (2 ^ a .q)) set d) free in
     let there = c .before .before .slot-at3 .ensures ∙ ap (λ (o : ℕ). entry (a .table .now) o (a .x)) other in
-    subst (λ (m : ℕ). c .before .lesser .result ≤ m) there (c .before .lesser .ensures .1)
+    subst (λ (m : ℕ). c .before .lesser .result ≤ m) there (no-later c .1)
 
 -- d was not the last
 behind : (c : tie.Else4 Inv-loop μ-loop) →
@@ -116,7 +122,7 @@ returns-4 c =
     let turned = ap (bitXor (a .s)) (c .before .before .before .before .before .before .before .letter-mask .ensures) in
     seek-done v rows (a .table .now) (a .s) (a .q) (a .x) (l .least) (l .d) (c .before .before .before .lesser .result)
     (l .inv .2 v rows refl refl turned)
-    (l .inv .1) (l .inv .0) (c .before .before .before .lesser .ensures .0) (entered (c .before .before) v refl turned)
+    (l .inv .1) (l .inv .0) (no-later (c .before .before) .0) (entered (c .before .before) v refl turned)
     (sym (c .before .next-inside .ensures) ∙ c .if4 .taken)
 
 loop-less : tie.Need-loop-less Inv-loop μ-loop
@@ -134,7 +140,7 @@ loop-again c =
           (seek-next v rows (a .table .now) (a .s) (a .q) (a .x) (l .least) (l .d) (c .before .before .before .lesser .result)
           (l .inv .2 v rows at free turned)
           (subst (λ (f : ℕ). Within f (l .d)) free (l .inv .1)) (subst (λ (f : ℕ). f < 256) free (l .inv .0))
-          (c .before .before .before .lesser .ensures .0) (entered (c .before .before) v free turned)
+          (no-later (c .before .before) .0) (entered (c .before .before) v free turned)
           (λ z. c .if4 .left (next ∙ ap (λ (f : ℕ). nextInside f (l .d)) free ∙ z))),
     )
 
