@@ -8,6 +8,15 @@ use super::plan::Plan;
 use super::table::View;
 use super::tree::Node;
 
+/// The letters that each point discloses.
+fn own(plan: &Plan) -> [u8; 8] {
+    let mut sets = [0; 8];
+    for (l, letter) in plan.used_letters().iter().enumerate() {
+        sets[letter.point as usize] |= 1 << l;
+    }
+    sets
+}
+
 /// What the table of least slots needs to know of a position.
 fn view<'a>(plan: &'a Plan, at: &Position) -> View<'a> {
     View {
@@ -18,7 +27,7 @@ fn view<'a>(plan: &'a Plan, at: &Position) -> View<'a> {
         undecided: plan.settled(at.left),
         low: slots_after(at.slots, at.left, at.earliest),
         cap: slots_after(at.slots, at.left, plan.horizon),
-        own: std::array::from_fn(|x| plan.settled(1 << x)),
+        own: own(plan),
     }
 }
 

@@ -5,7 +5,7 @@ pub mod rows;
 use plan::Constraint;
 use plan::Plan;
 ghost use mathlib.Core.Path.{_≡_};
-ghost use lib.ListN.{getD};
+ghost use lib.ListN.{length, getD};
 ghost use Rattle.network.specs.Mask.{bit};
 ghost use Rattle.network.specs.Network.{holds, atMost, keeps, slotsIn};
 ghost use Rattle.plan.specs.Plan.{labelOf, signed, networkOf};
@@ -30,13 +30,21 @@ pub fn at_most(x: u8, y: u8, bound: u16) -> bool
 }
 
 // The slot of point x; 0 past the array.
-pub fn slot_of(slots: [u8; 8], x: u8) -> u8
-    ensures { λ r. ⌜ r ≡ getD slots x 0 ⌝ }
+fn slot_in(slots: &[u8; 8], x: u8) -> u8
+    requires { ⌜ length (now slots) ≡ 8 ⌝ }
+    ensures { λ r. ⌜ r ≡ getD (now (slots .entry)) x 0 ⌝ }
 {
     if 8 <= x {
         return 0;
     }
     slots[x as usize]
+}
+
+// .. of slots that are handed on.
+pub fn slot_of(slots: [u8; 8], x: u8) -> u8
+    ensures { λ r. ⌜ r ≡ getD slots x 0 ⌝ }
+{
+    slot_in(&slots, x)
 }
 
 // Whether the slots keep one constraint: its label fails, or its points are as far apart as it asks.

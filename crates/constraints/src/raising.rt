@@ -1,10 +1,11 @@
-// The raise: points are moved to the slots that their constraints ask, round by round until a round changes nothing.
+// The raise: points are moved to the slots that their constraints ask, round by round until a round changes nothing. Within a round the slots
+// are lent: handed on and back they would be stored byte by byte and loaded as a word for each constraint, which stalls the processor.
 use crate::rows;
 use plan::Constraint;
 ghost use mathlib.Core.Path.{_≡_};
 ghost use Prim.Native.Nat.{min, max};
 ghost use lib.Dec.{eqb};
-ghost use lib.ListN.{getD, set};
+ghost use lib.ListN.{length, getD, set};
 ghost use Rattle.network.specs.Mask.{bit, allBelow};
 ghost use Rattle.network.specs.Network.{slotsIn};
 ghost use Rattle.network.specs.Raise.{leastFrom, asked, turn, turns};
@@ -27,13 +28,14 @@ fn least_from(y: u8, bound: u16) -> u32
 }
 
 // The earliest slot that the constraint leaves its X; 0 where its label does not hold.
-fn asked_slot(c: Constraint, slots: [u8; 8], values: u8) -> u32
-    ensures { λ r. ⌜ r ≡ asked (bit values) (slotsIn slots) (constraintOf c) ⌝ }
+fn asked_slot(c: Constraint, slots: &[u8; 8], values: u8) -> u32
+    requires { ⌜ length (now slots) ≡ 8 ⌝ }
+    ensures { λ r. ⌜ r ≡ asked (bit values) (slotsIn (now (slots .entry))) (constraintOf c) ⌝ }
 {
     if !crate::label_holds(c, values) {
         return 0;
     }
-    least_from(crate::slot_of(slots, c.to), c.bound)
+    least_from(crate::slot_in(slots, c.to), c.bound)
 }
 
 fn at_most_cap(cap: u8, v: u32) -> u8
@@ -45,28 +47,25 @@ fn at_most_cap(cap: u8, v: u32) -> u8
     cap
 }
 
-// The slots with point x no earlier than slot v. Past the array nothing changes.
-fn no_earlier(slots: [u8; 8], x: u8, v: u8) -> [u8; 8]
-    ensures { λ r. ⌜ r ≡ set slots x (max (getD slots x 0) v) ⌝ }
+// Point x comes no earlier than slot v. Past the array nothing changes.
+fn no_earlier(slots: &mut [u8; 8], x: u8, v: u8)
+    requires { ⌜ length (now slots) ≡ 8 ⌝ }
+    ensures { λ r. ⌜ now (slots .exit) ≡ set (now (slots .entry)) x (max (getD (now (slots .entry)) x 0) v) ⌝ }
 {
-    let mut out = slots;
     if x < 8 {
         if slots[x as usize] < v {
-            out[x as usize] = v;
+            slots[x as usize] = v;
         }
     }
-    out
 }
 
 // One constraint's turn: its X is moved to the slot that it asks if it stands earlier, and to the cap at most.
-fn take_turn(c: Constraint, slots: [u8; 8], values: u8, cap: u8) -> [u8; 8]
-    ensures { λ r. ⌜ r ≡ turn cap (bit values) slots (constraintOf c) ⌝ }
+fn take_turn(c: Constraint, slots: &mut [u8; 8], values: u8, cap: u8)
+    requires { ⌜ length (now slots) ≡ 8 ⌝ }
+    ensures { λ r. ⌜ now (slots .exit) ≡ turn cap (bit values) (now (slots .entry)) (constraintOf c) ⌝ }
 {
-    no_earlier(
-        slots,
-        c.from,
-        at_most_cap(cap, asked_slot(c, slots, values)),
-    )
+    let slot = at_most_cap(cap, asked_slot(c, slots, values));
+    no_earlier(slots, c.from, slot);
 }
 
 // One round of the raise: each of the constraints in the rows takes its turn.
@@ -76,8 +75,7 @@ pub fn raise(rows: &[u16; 320], count: u8, slots: [u8; 8], values: u8, cap: u8) 
     let mut moved = slots;
     let mut k: u8 = 0;
     while k < count {
-        let next = take_turn(rows::row_at(rows, k), moved, values, cap);
-        moved = next;
+        take_turn(rows::row_at(rows, k), &mut moved, values, cap);
         k += 1;
     }
     moved

@@ -66,7 +66,7 @@ keeps-content net ψ s =
 module _ (cap : ℕ) (s : Scenario) where
   -- ---- one turn
 
-  turn-length : (slots : List ℕ) (c : Constraint) → length (turn cap s slots c) ≡ length slots
+  pub turn-length : (slots : List ℕ) (c : Constraint) → length (turn cap s slots c) ≡ length slots
   unfolding turn
   turn-length slots c = length-set slots (c .from) _
 

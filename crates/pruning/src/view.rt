@@ -7,7 +7,7 @@ use table::View;
 ghost use mathlib.Core.Path.{_≡_};
 ghost use Prim.Native.Nat.{_^_, _<_};
 ghost use lib.Bits.{bitOr};
-ghost use lib.ListN.{getD, set};
+ghost use lib.ListN.{length, getD, set};
 ghost use Rattle.plan.specs.Plan.{zeroLetter, listed};
 ghost use Rattle.pruning.specs.Pruning.{lettersAt, viewOf};
 
@@ -25,16 +25,14 @@ fn disclosing(entries: [Letter; 6]) -> [u8; 6]
     out
 }
 
-// The masks with letter l added at point x. Past the array nothing changes.
-fn with_letter(sets: [u8; 8], x: u8, l: u8) -> [u8; 8]
-    requires { ⌜ l < 6 ⌝ }
-    ensures { λ r. ⌜ r ≡ set sets x (bitOr (getD sets x 0) (2 ^ l)) ⌝ }
+// Point x discloses letter l too. Past the array nothing changes.
+fn add_letter(sets: &mut [u8; 8], x: u8, l: u8)
+    requires { ⌜ (l < 6) × (length (now sets) ≡ 8) ⌝ }
+    ensures { λ r. ⌜ now (sets .exit) ≡ set (now (sets .entry)) x (bitOr (getD (now (sets .entry)) x 0) (2 ^ l)) ⌝ }
 {
-    let mut out = sets;
     if x < 8 {
-        out[x as usize] = out[x as usize] | 1u8 << l;
+        sets[x as usize] = sets[x as usize] | 1u8 << l;
     }
-    out
 }
 
 // The letters that each point discloses, used or not.
@@ -45,8 +43,7 @@ fn own(entries: [Letter; 6]) -> [u8; 8]
     let mut l: u8 = 0;
     while l < 6 {
         let letter = entries[l as usize];
-        let more = with_letter(out, letter.point, l);
-        out = more;
+        add_letter(&mut out, letter.point, l);
         l += 1;
     }
     out

@@ -17,8 +17,8 @@ returns c =
     let fails = not-true (c .before .label-holds .result) (c .if1 .taken) in
     rw (← c .before .label-holds .ensures, fails)
 
-slot-of-requires : tie.Need-slot-of-requires
-slot-of-requires c κs = search needs
+slot-in-requires : tie.Need-slot-in-requires
+slot-in-requires c κs = search needs
 
 least-from-requires : tie.Need-least-from-requires
 least-from-requires c κs = search needs
@@ -30,9 +30,9 @@ returns-2 c =
     let label = c .before .before .before .label-holds in
     let held = not-false (label .result) (c .before .before .if1 .left) in
     c .least-from .ensures
-    ∙ rw (← label .ensures, held) (ap (λ (y : ℕ). leastFrom y (signed (a .c .bound))) (c .before .slot-of .ensures))
+    ∙ rw (← label .ensures, held) (ap (λ (y : ℕ). leastFrom y (signed (a .c .bound))) (c .before .slot-in .ensures))
 
 pub asked-slot-spec : {M : Type 1} → statement M
 asked-slot-spec =
     tie.close
-    (tie.spec label-holds-requires returns slot-of-requires least-from-requires returns-2)
+    (tie.spec label-holds-requires returns slot-in-requires least-from-requires returns-2)

@@ -3,9 +3,11 @@ use mathlib.Core.Path.{_≡_, refl, sym, ap, _∙_}
 use mathlib.Core.List.{List}
 use Prim.Native.Nat.{ℕ, _-_, _≤_}
 use native.Mathlib.Omega.{arith}
+use lib.ListN.{length}
 use borrow.Author.Needs.{needs}
 use Rattle.network.specs.Mask.{bit}
 use Rattle.network.specs.Raise.{turns}
+use Rattle.network.proofs.RaiseLaws.{turn-length}
 use Rattle.plan.specs.Plan.{constraintOf, listed}
 use Rattle.constraints.specs.Rows.{rowAt, rowsSay}
 use Rattle.constraints.proofs.RaisingLaws.{turns-next}
@@ -17,14 +19,14 @@ abbrev after : List ℕ → ℕ → ℕ → List ℕ → ℕ → List ℕ
 after rows values cap slots j = turns cap (bit values) slots (rowsSay j rows)
 
 abbrev Inv-loop : tie.InvT-loop
-Inv-loop rows count values cap moved₀ k₀ moved k = (k ≤ count) × (moved ≡ after rows values cap moved₀ k)
+Inv-loop rows count values cap moved₀ k₀ moved k = (k ≤ count) × (length moved ≡ 8) × (moved ≡ after rows values cap moved₀ k)
 
 abbrev μ-loop : tie.MeasureT-loop
 μ-loop rows count values cap moved₀ k₀ moved k = count - k
 
 loop-holds : tie.Need-loop-holds Inv-loop μ-loop
 unfolding turns listed
-loop-holds c = (omega arith, refl)
+loop-holds c = (omega arith, search needs, refl)
 
 row-at-requires : tie.Need-row-at-requires Inv-loop μ-loop
 row-at-requires c κs = search needs
@@ -40,11 +42,12 @@ loop-less c = omega arith
 
 loop-again : tie.Need-loop-again Inv-loop μ-loop
 loop-again c =
-    let a = c .before .before .before .before .args in
-    let now = c .before .before .before .loop in (
+    let a = c .before .before .before .before .before .args in
+    let now = c .before .before .before .before .loop in (
       omega arith,
+      ap length (c .take-turn .ensures) ∙ turn-length (a .cap) (bit (a .values)) (now .moved) _ ∙ now .inv .1,
       c .take-turn .ensures
-          ∙ rw (c .before .row-at .ensures, now .inv .1)
+          ∙ rw (c .before .before .row-at .ensures, now .inv .2)
           (sym (turns-next (a .cap) (bit (a .values)) _ (now .k) (λ i. constraintOf (rowAt (a .rows .now) i)))),
     )
 
@@ -52,7 +55,7 @@ returns : tie.Need-returns Inv-loop μ-loop
 returns c =
     let a = c .before .before .args in
     let e : c .before .loop .k ≡ a .count = omega arith in
-    c .before .loop .inv .1 ∙ ap (after (a .rows .now) (a .values) (a .cap) _) e
+    c .before .loop .inv .2 ∙ ap (after (a .rows .now) (a .values) (a .cap) _) e
 
 pub raise-spec : {M : Type 1} → statement M
 raise-spec =

@@ -16,7 +16,7 @@ no-earlier-requires c κs = search needs
 returns : tie.Need-returns
 unfolding turn
 returns c =
-    rw (← c .before .before .asked-slot .ensures, ← c .before .at-most-cap .ensures) (c .no-earlier .ensures)
+    rw (← c .before .before .before .asked-slot .ensures, ← c .before .before .at-most-cap .ensures) (c .no-earlier .ensures)
 
 pub take-turn-spec : {M : Type 1} → statement M
 take-turn-spec =

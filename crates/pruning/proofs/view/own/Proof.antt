@@ -27,8 +27,8 @@ mul-letter c = search needs
 array-copy-out-letter : tie.Need-array-copy-out-letter Inv-loop μ-loop
 array-copy-out-letter c = search needs
 
-with-letter-requires : tie.Need-with-letter-requires Inv-loop μ-loop
-with-letter-requires c κs = search needs
+add-letter-requires : tie.Need-add-letter-requires Inv-loop μ-loop
+add-letter-requires c κs = search needs
 
 add-l : tie.Need-add-l Inv-loop μ-loop
 add-l c = search needs
@@ -38,9 +38,10 @@ loop-less c = search needs
 
 loop-again : tie.Need-loop-again Inv-loop μ-loop
 loop-again c =
-    let l = c .before .before .before .loop in
-    subst (λ (s : List ℕ). Gathered (c .before .before .before .before .args .t1) s (l .l + 1)) (sym (c .with-letter .ensures))
-    (gathered-next (c .before .before .before .before .args .t1) (l .out) (l .l) _ refl (l .inv) (omega arith))
+    let entries = c .before .before .before .before .before .args .t1 in
+    let l = c .before .before .before .before .loop in
+    subst (λ (s : List ℕ). Gathered entries s (l .l + 1)) (sym (c .add-letter .ensures))
+    (gathered-next entries (l .out) (l .l) _ refl (l .inv) (omega arith))
 
 returns : tie.Need-returns Inv-loop μ-loop
 returns c =
@@ -59,7 +60,7 @@ own-spec =
     cast-letter
     mul-letter
     array-copy-out-letter
-    with-letter-requires
+    add-letter-requires
     add-l
     loop-less
     loop-again
