@@ -17,7 +17,7 @@ pub struct View<'a> {
     /// The earliest and the latest slot of each point: its own if it is performed.
     pub low: Slots,
     pub cap: Slots,
-    /// The decisions that each point discloses.
+    /// The letters that each point discloses.
     pub own: [u8; 8],
 }
 

@@ -1,30 +1,39 @@
 -- Laws of what the code of the raise computes: the slot that a bound asks, one slot no earlier, turns taken from the front, eight slots
 -- compared. Only the checker need believe this file.
 use mathlib.Core.Path.{_≡_, refl, sym, ap, _∙_}
+use mathlib.Core.Logic.{by-cases}
 use mathlib.Core.Bool.{Bool, true, false}
 use mathlib.Core.List.{List}
-use Prim.Native.Nat.{ℕ, zero, suc, _+_, _-_, _≤_, _<_, max}
+use Prim.Native.Nat.{ℕ, zero, suc, _+_, _-_, _%_, _≤_, _<_, min, max}
 use native.Mathlib.Omega.{arith}
 use native.Mathlib.Numerals.{add-one}
+use native.Mathlib.Decide.{decLt}
 use lib.Dec.{eqb}
 use lib.ListN.{length, getD, set}
 use lib.Seq.{set-out, set-getD, ext-getD}
 use Rattle.network.specs.Mask.{allBelow}
-use Rattle.network.specs.Network.{Scenario, Constraint, slotsIn}
-use Rattle.network.specs.Raise.{leastFrom, turn, turns}
+use Rattle.network.specs.Network.{Scenario, Constraint, slotsIn, holds}
+use Rattle.network.specs.Raise.{leastFrom, asked, turn, turns}
 use Rattle.network.proofs.Booleans.{clash, ltb-yes, ltb-no, eqb-yes, eqb-is}
 use Rattle.network.proofs.BelowLaws.{all-at, all-make}
 use Rattle.plan.specs.Plan.{signed, listed}
 
 -- ---- a bound in two's complement
 
-pub least-pos : (y b : ℕ) → b < 32768 → leastFrom y (signed b) ≡ y - b
+least-pos : (y b : ℕ) → b < 32768 → leastFrom y (signed b) ≡ y - b
 unfolding leastFrom signed
 least-pos y b h = rw (ltb-yes b 32768 h)
 
-pub least-neg : (y b : ℕ) → 32768 ≤ b → b < 65536 → leastFrom y (signed b) ≡ y + 65536 - b
+least-neg : (y b : ℕ) → 32768 ≤ b → b < 65536 → leastFrom y (signed b) ≡ y + 65536 - b
 unfolding leastFrom signed
 least-neg y b h k = rw (ltb-no b 32768 (λ lt. omega arith)) (omega arith)
+
+-- half of the range is added on both sides
+pub least-is : (y b : ℕ) → b < 65536 → leastFrom y (signed b) ≡ y + 32768 - (b + 32768) % 65536
+least-is y b k =
+    by-cases (decLt b 32768)
+    (λ lt. rw (least-pos y b lt) (omega arith))
+    (λ ge. rw (least-neg y b (omega arith) k) (omega arith))
 
 -- ---- a slot no earlier than v
 
@@ -38,6 +47,21 @@ late-enough slots x v h =
 
 pub past : (slots : List ℕ) (x v : ℕ) → length slots ≤ x → slots ≡ set slots x v
 past slots x v h = sym (set-out slots x v h)
+
+-- ---- a turn
+
+-- where the label fails nothing moves
+pub no-turn :
+    (cap : ℕ) (s : Scenario) (slots : List ℕ) (c : Constraint) → holds s (c .label) ≡ false → slots ≡ turn cap s slots c
+unfolding turn asked
+no-turn cap s slots c fails = rw fails (late-enough slots (c .from) (min cap 0) (omega arith))
+
+-- where it holds X comes no earlier than the slot asked
+pub own-turn :
+    (cap : ℕ) (s : Scenario) (slots : List ℕ) (c : Constraint) → holds s (c .label) ≡ true →
+    set slots (c .from) (max (getD slots (c .from) 0) (min cap (leastFrom (getD slots (c .to) 0) (c .bound)))) ≡ turn cap s slots c
+unfolding turn asked
+own-turn cap s slots c held = rw held
 
 -- ---- turns from the front
 

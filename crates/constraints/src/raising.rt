@@ -8,34 +8,21 @@ ghost use lib.Dec.{eqb};
 ghost use lib.ListN.{length, getD, set};
 ghost use Rattle.network.specs.Mask.{bit, allBelow};
 ghost use Rattle.network.specs.Network.{slotsIn};
-ghost use Rattle.network.specs.Raise.{leastFrom, asked, turn, turns};
+ghost use Rattle.network.specs.Raise.{leastFrom, turn, turns};
 ghost use Rattle.plan.specs.Plan.{signed, constraintOf};
 ghost use Rattle.constraints.specs.Rows.{rowsSay};
 
-// The least slot x with y - x at most the bound, which is in two's complement; 0 where that would be less.
+// The least slot x with y - x at most the bound, which is in two's complement; 0 where that would be less. Half of the range is added on both
+// sides, so that the sign needs no branch.
 fn least_from(y: u8, bound: u16) -> u32
     ensures { λ r. ⌜ r ≡ leastFrom y (signed bound) ⌝ }
 {
-    let d = bound as u32;
-    let t = y as u32;
-    if 32768 <= d {
-        return t + 65536 - d;
-    }
+    let t = y as u32 + 32768;
+    let d = (bound as u32 + 32768) % 65536;
     if t < d {
         return 0;
     }
     t - d
-}
-
-// The earliest slot that the constraint leaves its X; 0 where its label does not hold.
-fn asked_slot(c: Constraint, slots: &[u8; 8], values: u8) -> u32
-    requires { ⌜ length (now slots) ≡ 8 ⌝ }
-    ensures { λ r. ⌜ r ≡ asked (bit values) (slotsIn (now (slots .entry))) (constraintOf c) ⌝ }
-{
-    if !crate::label_holds(c, values) {
-        return 0;
-    }
-    least_from(crate::slot_in(slots, c.to), c.bound)
 }
 
 fn at_most_cap(cap: u8, v: u32) -> u8
@@ -59,12 +46,17 @@ fn no_earlier(slots: &mut [u8; 8], x: u8, v: u8)
     }
 }
 
-// One constraint's turn: its X is moved to the slot that it asks if it stands earlier, and to the cap at most.
+// One constraint's turn: its X is moved to the slot that it asks if it stands earlier, and to the cap at most. Where its label does not hold
+// it asks nothing.
 fn take_turn(c: Constraint, slots: &mut [u8; 8], values: u8, cap: u8)
     requires { ⌜ length (now slots) ≡ 8 ⌝ }
     ensures { λ r. ⌜ now (slots .exit) ≡ turn cap (bit values) (now (slots .entry)) (constraintOf c) ⌝ }
 {
-    let slot = at_most_cap(cap, asked_slot(c, slots, values));
+    if !crate::label_holds(c, values) {
+        return;
+    }
+    let least = least_from(crate::slot_in(slots, c.to), c.bound);
+    let slot = at_most_cap(cap, least);
     no_earlier(slots, c.from, slot);
 }
 

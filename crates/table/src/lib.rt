@@ -1,9 +1,9 @@
 // The table of least slots: for every setting of the letters that a state leaves open, and every point, a slot before which no win performs
 // the point in that setting.
-pub mod cells;
-pub mod probing;
-pub mod rounds;
-pub mod rules;
+mod cells;
+mod probing;
+mod rounds;
+mod rules;
 
 ghost use mathlib.Core.Path.{_≡_};
 ghost use mathlib.Core.Bool.{true};
@@ -29,7 +29,7 @@ pub struct View {
     // the earliest and the latest slot of each point: its own if it is performed
     pub low: [u8; 8],
     pub cap: [u8; 8],
-    // the disclosing point of each letter, and the decisions that each point discloses
+    // the disclosing point of each letter, and the letters that each point discloses
     pub disclosing: [u8; 6],
     pub own: [u8; 8],
 }
@@ -116,7 +116,7 @@ fn least_slots(v: View, table: &[u8; 512]) -> [u8; 8]
 pub fn soonest(v: View, rows: &[u16; 320]) -> [u8; 8]
     ensures { λ r. ⌜ ((w : Win v (now (rows .entry))) (s : ℕ) → w .settled s ≡ s → Below w s r) ⌝ }
 {
-    let mut table = [0u8; 512];
-    settle(v, rows, &mut table);
-    least_slots(v, &table)
+    let mut least = [0u8; 512];
+    settle(v, rows, &mut least);
+    least_slots(v, &least)
 }

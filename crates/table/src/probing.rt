@@ -74,7 +74,7 @@ fn probe_each(v: View, rows: &[u16; 320], table: &mut [u8; 512]) -> u64
     }
 }
 
-// Probing to the end: true only where no win is left.
+// Probing to the end: true only where no win is left. (The count ends the loop for the checker; past it the table would only say less.)
 pub fn refutes(v: View, rows: &[u16; 320], table: &mut [u8; 512]) -> bool
     ensures { λ r. ⌜ Tighter v (now (rows .entry)) (now (table .entry)) (now (table .exit))
         × (r ≡ true → Lost v (now (rows .entry)) (now (table .entry))) ⌝ }

@@ -26,7 +26,8 @@ fn too_late(v: View, slots: [u8; 8]) -> bool
     false
 }
 
-// The slots that the constraints ask in setting s: raised until they rest, or until some point stands too late.
+// The slots that the constraints ask in setting s: raised until they rest, or until some point stands too late. (Of eight points at slots
+// below 64 some round must leave all in place, or one too late, within 512 rounds.)
 fn at_rest(v: View, rows: &[u16; 320], slots: [u8; 8], s: u8) -> [u8; 8]
     ensures { λ r. ⌜ Moves v (now (rows .entry)) s slots r ⌝ }
 {
@@ -69,7 +70,7 @@ pub fn letter_mask(q: u8) -> u8
 
 // A slot before which setting s cannot have point x, by the flip rule for the unheard condition q: x comes later than the point of q, or as
 // in some setting with q the other way round, in which the decision that x discloses is the same and the other open ones are free. 0 where
-// the table says as much already.
+// the table says as much already. (The remainder makes the disclosing point an index; a plan has no point past 7.)
 fn flip_slot(v: View, table: &[u8; 512], s: u8, q: u8, x: u8) -> u8
     requires { ⌜ (s < 64) × (q < 6) × (x < 8) ⌝ }
     ensures { λ r. ⌜ ((rows : List ℕ) → Flipped v rows (now (table .entry)) s q x r) ⌝ }
