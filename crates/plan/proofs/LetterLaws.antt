@@ -1,14 +1,16 @@
 -- Laws of masks of letters: one more letter below, the letters of both masks; of kinds of letters. Only the checker need believe this file.
-use mathlib.Core.Path.{_≡_, refl, ap, _∙_}
-use mathlib.Core.Bool.{Bool, true, false, not}
+use mathlib.Core.Path.{_≡_, refl, sym, ap, _∙_}
+use mathlib.Core.Logic.{by-cases}
+use mathlib.Core.Bool.{Bool, true, false, not, _&&_}
 use mathlib.Core.List.{List, []}
 use Prim.Native.Nat.{ℕ, suc, _+_, _-_, _*_, _^_, _≤_, _<_}
 use native.Mathlib.Omega.{arith}
 use native.Mathlib.Nat.{add-zero}
+use native.Mathlib.Decide.{decLt}
 use lib.Pow.{pow-mono}
-use Rattle.network.specs.Mask.{digit, mask}
+use Rattle.network.specs.Mask.{bit, digit, mask}
 use Rattle.network.proofs.Booleans.{ltb-yes, ltb-no, eqb-no}
-use Rattle.network.proofs.MaskLaws.{mask-cong, mask-lt}
+use Rattle.network.proofs.MaskLaws.{mask-cong, mask-lt, bit-mask, bit-mask-above, no-bits}
 use Rattle.plan.specs.declared.Letter.{Letter}
 use Rattle.plan.specs.declared.Plan.{Plan}
 use Rattle.plan.specs.Plan.{letterAt, networkOf}
@@ -21,9 +23,18 @@ pub record MaskFrom (w : ℕ) (f : ℕ → Bool) (i m : ℕ) : Type 0 where
   pub within : i ≤ w
   pub is : m ≡ mask (w - i) (λ j. f (i + j))
 
+-- none from i on
+pub mask-none : (w i : ℕ) (f : ℕ → Bool) → i ≤ w → ((k : ℕ) → i ≤ k → k < w → f k ≡ false) → MaskFrom w f i 0
+mask-none w i f h none =
+    record {
+      within = h;
+      is = sym (no-bits (mask (w - i) (λ j. f (i + j))) (λ k. by-cases (decLt k (w - i))
+          (λ lt. bit-mask (w - i) (λ j. f (i + j)) k lt ∙ none (i + k) (omega arith) (omega arith))
+          (λ ge. bit-mask-above (w - i) (λ j. f (i + j)) k (omega arith))));
+    }
+
 pub mask-start : (w : ℕ) (f : ℕ → Bool) → MaskFrom w f w 0
-unfolding mask
-mask-start w f = let e : w - w ≡ 0 = omega arith in record { within = omega arith; is = rw e }
+mask-start w f = mask-none w w f (omega arith) (λ k h lt. absurd (omega arith))
 
 mask-suc : (n i : ℕ) (f : ℕ → Bool) → digit (f i) + 2 * mask n (λ j. f (suc i + j)) ≡ mask (suc n) (λ j. f (i + j))
 unfolding mask
@@ -68,8 +79,16 @@ condition-kind p false i h n = rw (ltb-yes i (p .letters) h, eqb-no (letterAt p 
 abbrev pub lettersOnly : ℕ → List Letter → Plan
 lettersOnly count letters = record { horizon = 0; points = 0; letters = count; constraints = 0; letter = letters; constraint = [] }
 
-pub kinds-only :
-    (p : Plan) (count : ℕ) (letters : List Letter) (decided : Bool) → p .letters ≡ count → p .letter ≡ letters →
-    mask 6 (ofKind (networkOf (lettersOnly count letters)) decided) ≡ mask 6 (ofKind (networkOf p) decided)
-kinds-only p count letters true few same = rw (← few, ← same) refl
-kinds-only p count letters false few same = rw (← few, ← same) refl
+-- letter l is of one kind, and disclosed by one of these points
+abbrev pub disclosedBy : Plan → Bool → ℕ → ℕ → Bool
+disclosedBy p decided points l = ofKind (networkOf p) decided l && bit points (networkOf p .disclosing l)
+
+pub disclosed-only :
+    (p : Plan) (count : ℕ) (letters : List Letter) (decided : Bool) (points : ℕ) → p .letters ≡ count → p .letter ≡ letters →
+    mask 6 (disclosedBy (lettersOnly count letters) decided points) ≡ mask 6 (disclosedBy p decided points)
+disclosed-only p count letters true points few same = rw (← few, ← same) refl
+disclosed-only p count letters false points few same = rw (← few, ← same) refl
+
+-- letters that are not used
+pub disclosed-none : (p : Plan) (decided : Bool) (points k : ℕ) → p .letters ≤ k → disclosedBy p decided points k ≡ false
+disclosed-none p decided points k h = rw (of-no-kind p decided k h)

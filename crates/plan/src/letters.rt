@@ -3,9 +3,9 @@ use crate::Letter;
 use crate::Plan;
 ghost use mathlib.Core.Path.{_≡_};
 ghost use mathlib.Core.Bool.{_&&_};
-ghost use lib.ListN.{getD};
+ghost use Prim.Native.Nat.{ℕ, min, _<_};
 ghost use Rattle.network.specs.Mask.{bit, digit, mask};
-ghost use Rattle.plan.specs.Plan.{zeroLetter, letterAt, networkOf};
+ghost use Rattle.plan.specs.Plan.{letterAt, networkOf};
 ghost use Rattle.plan.specs.Letters.{ofKind, heardBy, settledBy};
 
 fn one_if(b: bool) -> u8
@@ -14,52 +14,47 @@ fn one_if(b: bool) -> u8
     if b { 1 } else { 0 }
 }
 
-// Whether letter i, which is l, is one of the decisions among the first `count`, or else one of the conditions.
-fn is_of_kind(count: u8, l: Letter, decided: bool, i: u8) -> bool
-    ensures { λ r. ⌜ ((p : Plan) → p .letters ≡ count → letterAt p i ≡ l → r ≡ ofKind (networkOf p) decided i) ⌝ }
+// Whether l is one of the decisions, or else one of the conditions.
+fn is_of_kind(l: Letter, decided: bool) -> bool
+    ensures { λ r. ⌜ ((p : Plan) (i : ℕ) → i < p .letters → letterAt p i ≡ l → r ≡ ofKind (networkOf p) decided i) ⌝ }
 {
-    if count <= i {
-        return false;
-    }
     if l.kind == 1 {
         return decided;
     }
     !decided
 }
 
-// The letters of one kind. The highest comes first, so that each step doubles the mask.
-fn of_kind(letters: [Letter; 6], count: u8, decided: bool) -> u8
-    ensures { λ r. ⌜ ((p : Plan) → p .letters ≡ count → p .letter ≡ letters → r ≡ mask 6 (ofKind (networkOf p) decided)) ⌝ }
+// Whether l is of one kind, and disclosed by one of these points.
+fn is_disclosed(l: Letter, decided: bool, points: u8) -> bool
+    ensures { λ r. ⌜ ((p : Plan) (i : ℕ) → i < p .letters → letterAt p i ≡ l
+        → r ≡ (ofKind (networkOf p) decided i && bit points (networkOf p .disclosing i))) ⌝ }
 {
-    let mut m: u8 = 0;
-    let mut i: u8 = 6;
-    while 0 < i {
-        i = i - 1;
-        m = one_if(is_of_kind(count, letters[i as usize], decided, i)) + 2 * m;
-    }
-    m
+    is_of_kind(l, decided) & masks::has(points, l.point)
 }
 
-// The entries whose disclosing point is one of these, used or not.
-fn disclosed(letters: [Letter; 6], points: u8) -> u8
-    ensures { λ r. ⌜ r ≡ mask 6 (λ l. bit points (getD letters l zeroLetter .point)) ⌝ }
+// How many of the six entries are used.
+fn used(count: u8) -> u8
+    ensures { λ r. ⌜ r ≡ min count 6 ⌝ }
 {
-    let mut m: u8 = 0;
-    let mut i: u8 = 6;
-    while 0 < i {
-        i = i - 1;
-        let l = letters[i as usize];
-        m = one_if(masks::has(points, l.point)) + 2 * m;
+    if count < 6 {
+        return count;
     }
-    m
+    6
 }
 
-// The letters of one kind that these points disclose. The letters alone are handed down: the record would be copied at every move.
+// The letters of one kind that these points disclose. The letters alone are handed down: the record would be copied at every move. The highest
+// comes first, so that each step doubles the mask.
 pub fn disclosed_of_kind(letters: [Letter; 6], count: u8, decided: bool, points: u8) -> u8
     ensures { λ r. ⌜ ((p : Plan) → p .letters ≡ count → p .letter ≡ letters
         → r ≡ mask 6 (λ l. ofKind (networkOf p) decided l && bit points (networkOf p .disclosing l))) ⌝ }
 {
-    of_kind(letters, count, decided) & disclosed(letters, points)
+    let mut m: u8 = 0;
+    let mut i = used(count);
+    while 0 < i {
+        i = i - 1;
+        m = one_if(is_disclosed(letters[i as usize], decided, points)) + 2 * m;
+    }
+    m
 }
 
 // The conditions that these points disclose: what is heard after a move that performs them.
