@@ -3,21 +3,20 @@ use mathlib.Core.Path.{_≡_, refl, sym, _∙_}
 use mathlib.Core.Logic.{by-cases, _≢_}
 use mathlib.Core.Bool.{Bool, true, false, _&&_, and-false, or-false}
 use mathlib.Core.List.{List}
-use Prim.Native.Nat.{ℕ, zero, suc, _+_, _/_, _%_, _^_, _≤_, _<_}
+use Prim.Native.Nat.{ℕ, zero, suc, _+_, _/_, _^_, _≤_, _<_}
 use native.Mathlib.Omega.{arith}
 use native.Mathlib.Nat.{pow-suc}
 use native.Mathlib.Decide.{decLt, ℕ-discrete}
 use lib.Bits.{bitOr}
 use lib.Dec.{ltb, eqb}
-use lib.ListN.{length, length-set, getD, set, length-replicate, replicate}
+use lib.ListN.{length, length-set, getD, set}
 use lib.Seq.{getD-set-same, getD-set-other, ext-getD}
 use Rattle.network.specs.Mask.{bit, mask}
 use Rattle.network.proofs.Booleans.{ltb-yes, ltb-no, eqb-yes, eqb-no}
-use Rattle.network.proofs.MaskLaws.{bit-mask, bit-mask-above, mask-cong, bits-ext, no-bits, bit-zero}
+use Rattle.network.proofs.MaskLaws.{bit-mask, bit-mask-above, mask-cong, bits-ext, no-bits}
 use Rattle.network.proofs.MachineLaws.{bit-or}
 use Rattle.plan.specs.declared.Letter.{Letter}
 use Rattle.plan.specs.Plan.{zeroLetter, listed}
-use Rattle.plan.proofs.SliceLaws.{all-same}
 use Rattle.game.proofs.CodeLaws.{length-listed, get-listed}
 use Rattle.pruning.specs.Pruning.{lettersAt}
 use Rattle.pruning.proofs.SettingLaws.{power-other}
@@ -94,11 +93,15 @@ module _ (entries : List Letter) where
             (λ ge. bit-mask-above 6 (among 0 x) k (omega arith))));
       }
 
-  pub gathered-all : (out : List ℕ) → Gathered out 6 → out ≡ listed 8 (lettersAt entries)
-  gathered-all out g =
+  -- as many letters as are used, or all six
+  pub gathered-all :
+      (out : List ℕ) (l count : ℕ) → Gathered out l → l ≤ count → (l < count → l ≡ 6) → out ≡ listed 8 (lettersAt entries count)
+  gathered-all out l count g le full =
       let long = g .long in
-      ext-getD 0 out (listed 8 (lettersAt entries)) (long ∙ sym (length-listed 8 (lettersAt entries)))
+      ext-getD 0 out (listed 8 (lettersAt entries count)) (long ∙ sym (length-listed 8 (lettersAt entries count)))
       (λ x lt. let less : x < 8 = omega arith in
       g .each x less
-      ∙ mask-cong 6 (among 6 x) (λ l. eqb (getD entries l zeroLetter .point) x) (λ k h. rw (ltb-yes k 6 h))
-      ∙ sym (get-listed 0 8 (lettersAt entries) x less))
+      ∙ mask-cong 6 (among l x) (among count x) (λ k h. by-cases (decLt k l)
+      (λ here. rw (ltb-yes k l here, ltb-yes k count (omega arith)))
+      (λ past. rw (ltb-no k l past, ltb-no k count (λ more. let e = full (omega arith) in omega arith))))
+      ∙ sym (get-listed 0 8 (lettersAt entries count) x less))

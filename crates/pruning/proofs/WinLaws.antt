@@ -2,14 +2,14 @@
 -- that is lost, and slots that no win comes before are slots that no winning move comes before. Only the checker need believe this file.
 use mathlib.Core.Path.{_≡_, refl, sym, ap, _∙_, subst}
 use mathlib.Core.Logic.{by-cases, _⊎_, inl, inr, ⊎-elim, _≢_}
-use mathlib.Core.Bool.{Bool, true, false, cond, _||_, and-false}
+use mathlib.Core.Bool.{Bool, true, false, cond, _&&_, _||_, and-false}
 use mathlib.Core.List.{List}
 use Prim.Native.Nat.{ℕ, _-_, _%_, _^_, _≤_, _<_}
 use native.Mathlib.Omega.{arith}
 use native.Mathlib.Nat.{mod-eq-of-lt, mod-le}
 use native.Mathlib.Decide.{decLt, ℕ-discrete}
 use lib.Bits.{bitAnd, bitXor, or-lt}
-use lib.Dec.{eqb}
+use lib.Dec.{ltb, eqb}
 use lib.ListN.{getD}
 use Rattle.network.specs.Mask.{bit, mask}
 use Rattle.network.specs.Network.{Network, condition, decision, conditionAt, decisionAt, slotsIn}
@@ -93,7 +93,7 @@ module _ (p : Plan) (wf : WellFormed p) (at : Position) where
   undecided-byte : v .undecided < 256
   undecided-byte = let h = mask-lt 6 (decisionAt net (at .left)) in omega arith
 
-  own-is : (x : ℕ) → x < 8 → getD (v .own) x 0 ≡ lettersAt (p .letter) x
+  own-is : (x : ℕ) → x < 8 → getD (v .own) x 0 ≡ lettersAt (p .letter) (p .letters) x
   own-is x lt = get-listed 0 8 _ x lt
 
   slots-after-is :
@@ -118,9 +118,10 @@ module _ (p : Plan) (wf : WellFormed p) (at : Position) where
         settled-by-is (at .left) l,
         d,
         own-is x hx,
-        bit-not 8 (lettersAt (p .letter) x) l (let h = mask-lt 6 (λ k. eqb (letterAt p k .point) x) in omega arith) (omega arith),
-        bit-mask 6 (λ k. eqb (letterAt p k .point) x) l hl,
+        bit-not 8 (lettersAt (p .letter) (p .letters) x) l (let h = mask-lt 6 (λ k. ltb k (p .letters) && eqb (letterAt p k .point) x) in omega arith) (omega arith),
+        bit-mask 6 (λ k. ltb k (p .letters) && eqb (letterAt p k .point) x) l hl,
         eqb-no (net .disclosing l) x ne,
+        and-false,
       )) z)
 
   -- ---- the win

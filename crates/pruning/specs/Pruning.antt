@@ -1,8 +1,9 @@
 -- Definitions: what the table of least slots needs to know of a position. A reader need not believe this file: the contracts of `lost`,
 -- `move_lost` and `soonest` speak of the game alone.
+use mathlib.Core.Bool.{_&&_}
 use mathlib.Core.List.{List}
 use Prim.Native.Nat.{ℕ, _%_}
-use lib.Dec.{eqb}
+use lib.Dec.{ltb, eqb}
 use lib.ListN.{getD}
 use Rattle.network.specs.Mask.{mask}
 use Rattle.plan.specs.declared.Letter.{Letter}
@@ -13,9 +14,9 @@ use Rattle.table.specs.declared.View.{View}
 use Rattle.game.specs.declared.Position.{Position}
 use Rattle.game.specs.Position.{slotsAfter}
 
--- the letters that a point discloses, used or not
-abbrev pub lettersAt : List Letter → ℕ → ℕ
-lettersAt entries x = mask 6 (λ l. eqb (getD entries l zeroLetter .point) x)
+-- the letters that a point discloses, of the first so many
+abbrev pub lettersAt : List Letter → ℕ → ℕ → ℕ
+lettersAt entries count x = mask 6 (λ l. ltb l count && eqb (getD entries l zeroLetter .point) x)
 
 -- The view of a position. (The remainder makes the first open slot a byte: it is no later than that slot.)
 abbrev pub viewOf : Plan → Position → View
@@ -30,5 +31,5 @@ viewOf p at =
       low = slotsAfter (at .slots) (at .left) (at .earliest % 256);
       cap = slotsAfter (at .slots) (at .left) (p .horizon);
       disclosing = listed 6 (λ l. letterAt p l .point);
-      own = listed 8 (lettersAt (p .letter));
+      own = listed 8 (lettersAt (p .letter) (p .letters));
     }

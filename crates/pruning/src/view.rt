@@ -35,13 +35,16 @@ fn add_letter(sets: &mut [u8; 8], x: u8, l: u8)
     }
 }
 
-// The letters that each point discloses, used or not.
-fn own(entries: [Letter; 6]) -> [u8; 8]
-    ensures { λ r. ⌜ r ≡ listed 8 (lettersAt entries) ⌝ }
+// The letters that each point discloses.
+fn own(entries: [Letter; 6], count: u8) -> [u8; 8]
+    ensures { λ r. ⌜ r ≡ listed 8 (lettersAt entries count) ⌝ }
 {
     let mut out = [0u8; 8];
     let mut l: u8 = 0;
-    while l < 6 {
+    while l < count {
+        if 6 <= l {
+            return out;
+        }
         let letter = entries[l as usize];
         add_letter(&mut out, letter.point, l);
         l += 1;
@@ -66,6 +69,6 @@ pub fn view(plan: Plan, at: Position) -> View
         low: game::slots_after(slots, at.left, (at.earliest % 256) as u8),
         cap: game::slots_after(slots, at.left, plan.horizon),
         disclosing: disclosing(entries),
-        own: own(entries),
+        own: own(entries, plan.letters),
     }
 }

@@ -1,7 +1,7 @@
 -- `own`: letter by letter. Only the checker need believe this file.
-use mathlib.Core.Path.{_≡_, refl, sym, subst}
+use mathlib.Core.Path.{refl, sym, subst}
 use mathlib.Core.List.{List}
-use Prim.Native.Nat.{ℕ, _+_, _-_}
+use Prim.Native.Nat.{ℕ, _+_, _-_, _≤_}
 use native.Mathlib.Omega.{arith}
 use Rattle.plan.proofs.SliceLaws.{all-same}
 use Rattle.pruning.proofs.OwnLaws.{Gathered, gathered-start, gathered-next, gathered-all}
@@ -10,13 +10,20 @@ use Rattle.pruning.proofs.view.own.Statement.{statement}
 use Rattle.pruning.proofs.view.own.Tie as tie
 
 abbrev Inv-loop : tie.InvT-loop
-Inv-loop entries out₀ l₀ out l = Gathered entries out l
+Inv-loop count entries out₀ l₀ out l = (l ≤ count) × Gathered entries out l
 
 abbrev μ-loop : tie.MeasureT-loop
-μ-loop entries out₀ l₀ out l = 6 - l
+μ-loop count entries out₀ l₀ out l = 6 - l
 
 loop-holds : tie.Need-loop-holds Inv-loop μ-loop
-loop-holds c = gathered-start _ _ (search needs) (all-same {E = ℕ} 8 0)
+loop-holds c = (omega arith, gathered-start _ _ (search needs) (all-same {E = ℕ} 8 0))
+
+returns : tie.Need-returns Inv-loop μ-loop
+returns c =
+    let l = c .before .before .loop in
+    let few = l .inv .1 .few in
+    gathered-all (c .before .before .before .args .t1) (l .out) (l .l) (c .before .before .before .args .count) (l .inv .1) (l .inv .0)
+    (λ lt. omega arith)
 
 cast-letter : tie.Need-cast-letter Inv-loop μ-loop
 cast-letter c = search needs
@@ -38,17 +45,18 @@ loop-less c = search needs
 
 loop-again : tie.Need-loop-again Inv-loop μ-loop
 loop-again c =
-    let entries = c .before .before .before .before .before .args .t1 in
-    let l = c .before .before .before .before .loop in
-    subst (λ (s : List ℕ). Gathered entries s (l .l + 1)) (sym (c .add-letter .ensures))
-    (gathered-next entries (l .out) (l .l) _ refl (l .inv) (omega arith))
+    let entries = c .before .before .before .before .before .before .args .t1 in
+    let l = c .before .before .before .before .before .loop in (
+      omega arith,
+      subst (λ (s : List ℕ). Gathered entries s (l .l + 1)) (sym (c .add-letter .ensures))
+          (gathered-next entries (l .out) (l .l) _ refl (l .inv .1) (omega arith)),
+    )
 
-returns : tie.Need-returns Inv-loop μ-loop
-returns c =
+returns-2 : tie.Need-returns-2 Inv-loop μ-loop
+returns-2 c =
     let l = c .before .loop in
-    let few = l .inv .few in
-    let e : l .l ≡ 6 = omega arith in
-    gathered-all (c .before .before .args .t1) (l .out) (subst (Gathered (c .before .before .args .t1) (l .out)) e (l .inv))
+    gathered-all (c .before .before .args .t1) (l .out) (l .l) (c .before .before .args .count) (l .inv .1) (l .inv .0)
+    (λ lt. omega arith)
 
 pub own-spec : {M : Type 1} → statement M
 own-spec =
@@ -57,6 +65,7 @@ own-spec =
     Inv-loop
     μ-loop
     loop-holds
+    returns
     cast-letter
     mul-letter
     array-copy-out-letter
@@ -64,4 +73,4 @@ own-spec =
     add-l
     loop-less
     loop-again
-    returns)
+    returns-2)
