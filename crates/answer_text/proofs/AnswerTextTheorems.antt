@@ -32,7 +32,6 @@ use Rattle.plan_text.proofs.PlanTextTheorems as plan-text
 use Rattle.plan_text.proofs.PlanTextTheorems.{read-exactly, refused-zero, at-most-1025}
 use Rattle.tree_text.specs.TreeText.{treeText}
 use Rattle.tree_text.proofs.TreeTextTheorems.{at-most-1724}
-use Rattle.search.specs.Search.{searchFault, searchAnswer}
 use Rattle.search.proofs.AnswerLaws.{answered-so}
 use Rattle.search.proofs.SearchTheorems.{fault-is, front-is-tree, fine-exactly, eleven-exactly}
 use Rattle.answer_text.specs.declared.AnswerText.{AnswerText}

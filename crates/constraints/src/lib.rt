@@ -12,14 +12,14 @@ ghost use Rattle.plan.specs.Plan.{labelOf, signed, networkOf};
 ghost use Rattle.constraints.specs.Constraints.{keepsOne};
 
 // Whether the label holds where the letters of the mask `values` are true and the others false.
-pub fn label_holds(c: Constraint, values: u8) -> bool
+fn label_holds(c: Constraint, values: u8) -> bool
     ensures { λ r. ⌜ r ≡ holds (bit values) (labelOf c) ⌝ }
 {
     (values ^ c.truth) & c.need == 0
 }
 
 // Whether y - x is at most the bound, which is in two's complement.
-pub fn at_most(x: u8, y: u8, bound: u16) -> bool
+fn at_most(x: u8, y: u8, bound: u16) -> bool
     ensures { λ r. ⌜ r ≡ atMost x y (signed bound) ⌝ }
 {
     let d = bound as u32;
@@ -48,7 +48,7 @@ pub fn slot_of(slots: [u8; 8], x: u8) -> u8
 }
 
 // Whether the slots keep one constraint: its label fails, or its points are as far apart as it asks.
-pub fn constraint_kept(c: Constraint, slots: [u8; 8], values: u8) -> bool
+fn constraint_kept(c: Constraint, slots: [u8; 8], values: u8) -> bool
     ensures { λ r. ⌜ r ≡ keepsOne (slotsIn slots) (bit values) c ⌝ }
 {
     if !label_holds(c, values) {

@@ -1,7 +1,6 @@
 -- Theorem: demand 1. Read the statement in specs/Demand1.antt; only the checker need believe the proof.
 use mathlib.Core.Path.{_≡_, refl, sym, ap, _∙_, subst}
 use mathlib.Core.Logic.{inl, inr, ⊎-elim}
-use mathlib.Core.Bool.{true}
 use mathlib.Core.List.{List, [], _∷_}
 use Prim.Native.Nat.{ℕ, _^_, _≤_}
 use native.Mathlib.Omega.{arith}
@@ -15,7 +14,6 @@ use Rattle.plan.specs.declared.Plan.{Plan}
 use Rattle.plan.specs.declared.Refusal.the-variants as refusal
 use Rattle.plan.specs.Answer.{unless, Answer, answered}
 use Rattle.plan.specs.Plan.{networkOf}
-use Rattle.plan.specs.WellFormed.{WellFormed}
 use Rattle.plan.proofs.AnswerLaws.{unless-is, first-none, answered-zero}
 use Rattle.judge.specs.Judge.{planFault}
 use Rattle.tree.specs.Nodes.{mostBytes, legalLength, firstNodes}

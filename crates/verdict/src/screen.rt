@@ -21,7 +21,8 @@ pub enum Screened {
 // are true and the others false.
 fn schedulable(rows: &[u16; 320], count: u8, points: u8, horizon: u8, values: u8) -> bool
     requires { ⌜ horizon ≤ 63 ⌝ }
-    ensures { λ r. ⌜ ((net : Network) → net .horizon ≡ horizon → net .points ≡ points → net .constraints ≡ rowsSay count (now (rows .entry)) → r ≡ verdictOf net (bit values) .scheduled) ⌝ }
+    ensures { λ r. ⌜ ((net : Network) → net .horizon ≡ horizon → net .points ≡ points → net .constraints ≡ rowsSay count (now (rows .entry))
+        → r ≡ verdictOf net (bit values) .scheduled) ⌝ }
 {
     let slots = crate::least_slots(rows, count, values, horizon + 1);
     crate::within_horizon(points, horizon, slots)

@@ -1,6 +1,5 @@
 -- `vectors::main` is safe and ends: each turn leaves fewer arguments. Only the checker need believe this file.
 use Prim.Native.Nat.{_-_}
-use borrow.Author.Needs.{needs}
 use native.Mathlib.Omega.{arith}
 use Rattle.vectors.proofs.main.Statement.{statement}
 use Rattle.vectors.proofs.main.Tie as tie

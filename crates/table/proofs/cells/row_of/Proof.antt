@@ -1,5 +1,4 @@
 -- `row_of`: one entry for each point. Only the checker need believe this file.
-use Prim.Native.Nat.{ℕ}
 use Rattle.table.proofs.TableLaws.{row-read}
 use borrow.Author.Needs.{needs}
 use Rattle.table.proofs.cells.row_of.Statement.{statement}
