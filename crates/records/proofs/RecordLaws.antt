@@ -1,12 +1,12 @@
 -- Laws of the layouts: what stands where in a record's bytes. Only the checker need believe this file.
 use mathlib.Core.Path.{_≡_, refl, sym, ap, _∙_}
-use mathlib.Core.List.{List, [], _∷_, _++_, append-assoc}
+use mathlib.Core.List.{List, _∷_, _++_, append-assoc}
 use Prim.Native.Nat.{ℕ, zero, suc, _+_, _*_, _/_, _%_, _≤_, _<_}
 use native.Mathlib.Omega.{arith}
 use lib.ListN.{length, getD, take, drop}
 use lib.Seq.{drop-cons, drop-drop, drop-append-le, drop-append-add, getD-drop, take-add}
 use Rattle.network.specs.Mask.{joinBelow}
-use Rattle.network.proofs.JoinLaws.{join-length, drop-to-piece}
+use Rattle.network.proofs.JoinLaws.{drop-to-piece}
 use Rattle.plan.specs.declared.Letter.{Letter}
 use Rattle.plan.specs.declared.Constraint.{Constraint}
 use Rattle.plan.specs.declared.Plan.{Plan}

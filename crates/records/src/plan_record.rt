@@ -73,17 +73,20 @@ fn constraints_in(source: &[u8]) -> [Constraint; 64]
     constraints
 }
 
-// The plan that a record of any bytes says. Bytes that are missing are zero, and those behind the first 400 are not looked at.
+// The plan that a record says, by its first 400 bytes. They are taken as a slice of that length first, so that no byte read is tested
+// against the length.
 pub fn plan_in(source: &[u8]) -> Plan
+    requires { ⌜ 400 ≤ length (now source) ⌝ }
     ensures { λ r. ⌜ r ≡ planIn (now (source .entry)) ⌝ }
 {
+    let record = &source[..LENGTH];
     Plan {
-        horizon: bytes::byte_or_zero(source, 0),
-        points: bytes::byte_or_zero(source, 1),
-        letters: bytes::byte_or_zero(source, 2),
-        constraints: bytes::byte_or_zero(source, 3),
-        letter: letters_in(source),
-        constraint: constraints_in(source),
+        horizon: bytes::byte_or_zero(record, 0),
+        points: bytes::byte_or_zero(record, 1),
+        letters: bytes::byte_or_zero(record, 2),
+        constraints: bytes::byte_or_zero(record, 3),
+        letter: letters_in(record),
+        constraint: constraints_in(record),
     }
 }
 

@@ -1,12 +1,11 @@
 -- Laws of the record that `follow` hands back, as bytes. Only the checker need believe this file.
 use mathlib.Core.Path.{_≡_, refl, ap, _∙_}
-use mathlib.Core.List.{List, map}
-use Prim.Native.Nat.{ℕ, _+_, _-_, _≤_}
+use mathlib.Core.List.{map}
+use Prim.Native.Nat.{_+_, _-_, _≤_}
 use native.Mathlib.Omega.{arith}
 use lib.ListN.{length, getD, replicate, length-append, length-map, length-replicate}
 use Rattle.network.specs.Mask.{joinBelow}
 use Rattle.network.proofs.JoinLaws.{join-length}
-use Rattle.run.specs.declared.History.{History}
 use Rattle.following.specs.declared.Followed.{Followed}
 use Rattle.following.specs.Calls.{Progress}
 use Rattle.following.specs.Following.{zeroStep, stepRecord, followedRecord}

@@ -20,10 +20,10 @@ use Rattle.run.specs.Run.{Told, instruct, complete, refuse, showAnswer, reportA
 use Rattle.following.specs.declared.Step.{Step}
 use Rattle.following.specs.Calls.{planner, Progress, begun, afterCalls}
 use Rattle.following.specs.Following.{callsIn, zeroStep, followedRecord}
-use Rattle.verdict.specs.Verdict.{Fixed, leastSchedule, screened}
+use Rattle.verdict.specs.Verdict.{leastSchedule, screened}
 use Rattle.answer_text.specs.AnswerText.{answerText}
 use Rattle.records.specs.Records.{planIn, planBytes, planLength, historyIn, historyBytes, historyLength}
-use Rattle.tureenlark.specs.Numbers.{numbered, answerNumber, testNumber, fixedNumber, toldNumber, faultNumber}
+use Rattle.tureenlark.specs.Numbers.{numbered, answerNumber, toldNumber, faultNumber}
 
 -- ---- Records. One that is shorter than its layout is 10, before anything else is looked at.
 

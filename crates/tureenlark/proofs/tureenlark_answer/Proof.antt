@@ -1,10 +1,9 @@
 -- The text is stored where there is room for it. Only the checker need believe this file.
 use denote.Ref.{now}
-use mathlib.Core.Path.{_≡_, sym, _∙_, ap}
+use mathlib.Core.Path.{sym, _∙_, ap}
 use native.Mathlib.Omega.{arith}
-use Prim.Native.Nat.{ℕ, _≤_}
-use mathlib.Core.List.{List}
-use lib.ListN.{length, take}
+use Prim.Native.Nat.{_≤_}
+use lib.ListN.{length}
 use lib.Seq.{length-take-le}
 use Rattle.plan.specs.Answer.{putAt}
 use Rattle.answer_text.specs.declared.AnswerText.{AnswerText}

@@ -1,7 +1,6 @@
 -- Short records are refused; else the call is made of the plan that the bytes say. Only the checker need believe this file.
 use denote.Ref.{now}
 use mathlib.Core.Path.{_∙_, ap}
-use native.Mathlib.Omega.{arith}
 use Prim.Native.Nat.{ℕ}
 use Rattle.tureenlark.specs.Numbers.{numbered}
 use Rattle.plan.specs.declared.Plan.{Plan}

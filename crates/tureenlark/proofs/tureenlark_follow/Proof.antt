@@ -3,12 +3,10 @@ use denote.Ref.{now}
 use mathlib.Core.Path.{_≡_, _∙_, ap}
 use native.Mathlib.Omega.{arith}
 use Prim.Native.Nat.{_≤_}
-use mathlib.Core.List.{List}
 use lib.ListN.{length}
 use lib.Seq.{sets}
 use Rattle.plan.specs.Answer.{putAt}
 use Rattle.run.specs.declared.History.{History}
-use Rattle.following.specs.declared.Followed.{Followed}
 use Rattle.following.specs.Following.{followedRecord}
 use Rattle.records.specs.Records.{historyBytes}
 use Rattle.tureenlark.proofs.FollowLaws.{record-count, record-history, record-steps, steps-length}

@@ -1,9 +1,8 @@
 -- Short records are refused; else the call is made of the plan that the bytes say. Only the checker need believe this file.
 use denote.Ref.{now}
-use mathlib.Core.Path.{_≡_, sym, _∙_, ap}
+use mathlib.Core.Path.{_≡_, _∙_, ap}
 use native.Mathlib.Omega.{arith}
 use Prim.Native.Nat.{_≤_}
-use mathlib.Core.List.{List}
 use lib.ListN.{length}
 use Rattle.network.specs.Mask.{digit}
 use Rattle.plan.specs.declared.Plan.{Plan}

@@ -2,9 +2,7 @@
 use denote.Ref.{now}
 use mathlib.Core.Path.{_∙_, ap}
 use native.Mathlib.Omega.{arith}
-use Prim.Native.Nat.{ℕ}
 use Rattle.tureenlark.specs.Numbers.{numbered}
-use mathlib.Core.List.{List}
 use lib.ListN.{length}
 use Prim.Native.Nat.{_≤_}
 use Rattle.plan.specs.declared.Plan.{Plan}

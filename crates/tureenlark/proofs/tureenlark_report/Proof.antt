@@ -2,15 +2,12 @@
 use denote.Ref.{now}
 use mathlib.Core.Path.{_≡_, _∙_, ap}
 use native.Mathlib.Omega.{arith}
-use Prim.Native.Nat.{ℕ}
 use Rattle.tureenlark.specs.Numbers.{numbered}
-use Rattle.plan.specs.declared.Plan.{Plan}
-use Rattle.records.specs.Records.{planIn}
 use Prim.Native.Nat.{_≤_}
 use lib.ListN.{length}
 use Rattle.plan.specs.Answer.{Answer, putAt}
 use Rattle.run.specs.declared.History.{History}
-use Rattle.records.specs.Records.{historyIn, historyBytes}
+use Rattle.records.specs.Records.{historyBytes}
 use Rattle.tureenlark.specs.Library.{planShort, historyShort, reportShort, reportAt}
 use Rattle.tureenlark.proofs.LibraryLaws.{short, long, first-short, then-short, number-short, number-long, filled-short, put-long}
 use borrow.Author.Needs.{needs}

@@ -2,8 +2,6 @@
 use denote.Ref.{now}
 use mathlib.Core.Path.{_≡_, _∙_, ap}
 use native.Mathlib.Omega.{arith}
-use Prim.Native.Nat.{_≤_}
-use lib.ListN.{length}
 use Rattle.plan.specs.Answer.{putAt}
 use Rattle.run.specs.Run.{Told, shownTold}
 use Rattle.tureenlark.specs.Numbers.{toldNumber}

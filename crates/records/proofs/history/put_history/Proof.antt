@@ -2,7 +2,7 @@
 use denote.Ref.{now}
 use mathlib.Core.Path.{_≡_, _∙_}
 use native.Mathlib.Omega.{arith}
-use lib.ListN.{length, set, length-set}
+use lib.ListN.{length, length-set}
 use Rattle.records.specs.Records.{historyBytes}
 use Rattle.records.proofs.StoreLaws.{no-room, history-put}
 use borrow.Author.Needs.{needs}

@@ -1,6 +1,5 @@
 -- By cases of the room; the three parts stand one behind the other. Only the checker need believe this file.
 use denote.Ref.{now}
-use mathlib.Core.Path.{_∙_}
 use native.Mathlib.Omega.{arith}
 use Rattle.records.specs.Records.{planBytes}
 use Rattle.records.proofs.StoreLaws.{plan-length, no-room, plan-put}
