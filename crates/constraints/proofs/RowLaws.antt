@@ -3,7 +3,7 @@
 use mathlib.Core.Path.{_≡_, refl, ap, _∙_}
 use mathlib.Core.Logic.{by-cases}
 use mathlib.Core.List.{List}
-use Prim.Native.Nat.{ℕ, zero, suc, _+_, _*_, _%_, _<_}
+use Prim.Native.Nat.{ℕ, _+_, _*_, _%_, _<_}
 use native.Mathlib.Omega.{arith}
 use native.Mathlib.Nat.{mod-eq-of-lt}
 use native.Mathlib.Decide.{ℕ-discrete}
@@ -11,7 +11,8 @@ use lib.ListN.{length, length-set, getD, set}
 use lib.Seq.{getD-set-same, getD-set-other}
 use Rattle.plan.specs.declared.Constraint.{Constraint}
 use Rattle.plan.specs.declared.Plan.{Plan}
-use Rattle.plan.specs.Plan.{constraintAt, constraintOf, listed, networkOf}
+use Rattle.plan.specs.Plan.{constraintAt, constraintOf, networkOf}
+use Rattle.plan.proofs.PlanLaws.{listed-same}
 use Rattle.constraints.specs.Rows.{rowAt, rowsSay, RowPut}
 
 -- ---- five numbers put
@@ -112,16 +113,7 @@ filled-next p rows after j f put =
           (λ n. put .before i (omega arith) ∙ f .each i (omega arith));
     }
 
-listed-cong : {A : Type 0} (n : ℕ) (f g : ℕ → A) → ((i : ℕ) → i < n → f i ≡ g i) → listed n f ≡ listed n g
-unfolding listed
-listed-cong zero f g h = refl
-listed-cong (suc n) f g h = rw (
-  h zero (omega arith),
-  listed-cong n (λ i. f (suc i)) (λ i. g (suc i))
-      (λ i lt. h (suc i) (omega arith)),
-) refl
-
 pub filled-says : (p : Plan) (rows : List ℕ) → Filled p rows (p .constraints) → rowsSay (p .constraints) rows ≡ networkOf p .constraints
 filled-says p rows f =
-    listed-cong (p .constraints) (λ j. constraintOf (rowAt rows j)) (λ j. constraintOf (constraintAt p j))
+    listed-same (p .constraints) (λ j. constraintOf (rowAt rows j)) (λ j. constraintOf (constraintAt p j))
     (λ i lt. ap constraintOf (f .each i lt))

@@ -11,6 +11,7 @@ use Rattle.network.specs.Mask.{allBelow}
 use Rattle.network.proofs.Booleans.{and-left, and-right, and-make, ltb-yes, ltb-is, eqb-yes, eqb-is}
 use Rattle.network.proofs.BelowLaws.{all-at, all-make}
 use Rattle.plan.specs.Plan.{listed}
+use Rattle.plan.proofs.PlanLaws.{listed-same}
 use Rattle.frame.specs.Hex.{digitOf, pairOf, hexDigit}
 use Rattle.frame.specs.Frame.{Bytes, frameLength, frameText, byteAt, valueAt, whole}
 use Rattle.frame.proofs.HexLaws.{byte-back, byte-digits}
@@ -108,11 +109,6 @@ feed-long (suc n) (c ∷ s) e = let h = feed-long n s e in omega arith
 pub whole-long : (kind n : ℕ) (s : List ℕ) → whole kind n s ≡ true → frameLength n ≤ length s
 whole-long kind n s e = let h = feed-long (2 * n) s (is-whole kind n s e .feed) in omega arith
 
-listed-cong : (n : ℕ) (f g : ℕ → ℕ) → ((k : ℕ) → f k ≡ g k) → listed n f ≡ listed n g
-unfolding listed
-listed-cong zero f g h = refl
-listed-cong (suc n) f g h = rw (h zero) (ap (λ (l : List ℕ). g zero ∷ l) (listed-cong n _ _ (λ k. h (suc k))))
-
 -- two characters at the front that are a byte
 front : (c d : ℕ) (s : List ℕ) → byteAt (c ∷ d ∷ s) 0 < 256 →
     (hexDigit (valueAt (c ∷ d ∷ s) 0 / 16) ≡ c) × (hexDigit (valueAt (c ∷ d ∷ s) 0 % 16) ≡ d)
@@ -140,7 +136,7 @@ line-text (suc n) (c ∷ d ∷ s) h f =
     (ap (λ (i : ℕ). getD (c ∷ d ∷ s) i 0) (sym (twice-suc n)) ∙ f)
     in
     let same : listed n (valueAt s) ≡ listed n (λ k. valueAt (c ∷ d ∷ s) (suc k)) =
-    listed-cong n _ _ (λ k. ap (λ (b : ℕ). b % 256) (sym (byte-next c d s k)))
+    listed-same n _ _ (λ k lt. ap (λ (b : ℕ). b % 256) (sym (byte-next c d s k)))
     in
     ap (λ (x : ℕ). x ∷ d ∷ s) (sym (g .0))
     ∙ ap (λ (x : ℕ). hexDigit (valueAt (c ∷ d ∷ s) 0 / 16) ∷ x ∷ s) (sym (g .1))

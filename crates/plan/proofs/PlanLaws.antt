@@ -1,10 +1,18 @@
--- Laws of well-formed plans: the network of one is a network of the paper. Only the checker need believe this file.
+-- Laws of lists by their entries, and of well-formed plans: the network of one is a network of the paper. Only the checker need believe this file.
+use mathlib.Core.Path.{_≡_, refl}
 use Prim.Native.Nat.{ℕ, zero, suc, _<_}
 use native.Mathlib.Omega.{arith}
 use Rattle.network.specs.Network.{Each, IsNetwork, InNetwork}
 use Rattle.plan.specs.declared.Plan.{Plan}
 use Rattle.plan.specs.Plan.{listed, networkOf}
 use Rattle.plan.specs.WellFormed.{WellFormed}
+
+-- the same entries below n make the same list
+pub listed-same : {A : Type 0} (n : ℕ) (f g : ℕ → A) → ((i : ℕ) → i < n → f i ≡ g i) → listed n f ≡ listed n g
+unfolding listed
+listed-same zero f g h = refl
+listed-same (suc n) f g h =
+    rw (h zero (omega arith), listed-same n (λ i. f (suc i)) (λ i. g (suc i)) (λ i lt. h (suc i) (omega arith))) refl
 
 each-listed : {A : Type 0} (P : A → Type 0) (n : ℕ) (f : ℕ → A) → ((j : ℕ) → j < n → P (f j)) → Each P (listed n f)
 unfolding Each listed

@@ -40,7 +40,7 @@ use Rattle.game.specs.Position.{stateOf, Proper, slotsAfter}
 use Rattle.game.proofs.CodeLaws.{get-listed}
 use Rattle.game.proofs.PositionLaws.{value-is}
 use Rattle.pruning.specs.Pruning.{lettersAt, viewOf}
-use Rattle.pruning.proofs.SettingLaws.{power-other, flip-other, Won, final, unheard, undecided, settle, unheard-condition, undecided-decision, settled-unheard, settled-undecided, settled-known, settled-small, settled-path, settled-on, on-only, on-undecided, on-known, on-small, on-keeps, slot-past, slot-ahead, slot-flip}
+use Rattle.pruning.proofs.SettingLaws.{flip-other, Won, final, unheard, undecided, settle, unheard-condition, undecided-decision, settled-unheard, settled-undecided, settled-known, settled-small, settled-path, settled-on, on-only, on-undecided, on-known, on-small, on-keeps, slot-past, slot-ahead, slot-flip}
 
 -- a mask of letters, of which there are at most six
 letters-bit : (f : ℕ → Bool) → ((l : ℕ) → f l ≡ true → l < 6) → (l : ℕ) → bit (mask 6 f) l ≡ f l
@@ -145,14 +145,14 @@ module _ (p : Plan) (wf : WellFormed p) (at : Position) where
     from : (s x : ℕ) → x < p .points → getD (v .low) x 0 ≤ time s x
     from s x lt =
         let few = wf .points in
-        rw (slots-after-is (at .left) (at .earliest % 256) x (omega arith)) (by-test (bit (at .left) x)
+        subst (λ (n : ℕ). n ≤ time s x) (sym (slots-after-is (at .left) (at .earliest % 256) x (omega arith))) (by-test (bit (at .left) x)
         (λ y. let a = slot-ahead g s x lt y .0 in let b = mod-le (at .earliest) 256 in rw y (omega arith))
         (λ z. rw (z, slot-past g s x lt z) (omega arith)))
 
     upto : (s x : ℕ) → x < p .points → time s x ≤ getD (v .cap) x 0
     upto s x lt =
         let few = wf .points in
-        rw (slots-after-is (at .left) (p .horizon) x (omega arith)) (by-test (bit (at .left) x)
+        subst (λ (n : ℕ). time s x ≤ n) (sym (slots-after-is (at .left) (p .horizon) x (omega arith))) (by-test (bit (at .left) x)
         (λ y. rw y (slot-ahead g s x lt y .1))
         (λ z. rw (z, slot-past g s x lt z) (omega arith)))
 

@@ -10,6 +10,7 @@ use Rattle.plan.specs.declared.Letter.{Letter}
 use Rattle.plan.specs.declared.Constraint.{Constraint}
 use Rattle.plan.specs.declared.Plan.{Plan}
 use Rattle.plan.specs.Plan.{zeroLetter, zeroConstraint, letterAt, constraintAt, listed}
+use Rattle.plan.proofs.PlanLaws.{listed-same}
 use Rattle.frame.specs.Frame.{Bytes}
 use Rattle.game.proofs.CodeLaws.{length-listed, get-listed}
 use Rattle.run.specs.declared.History.{History}
@@ -23,14 +24,6 @@ unfolding listed
 front bs zero h = refl
 front [] (suc n) h = absurd (omega arith)
 front (b ∷ bs) (suc n) h = ap (λ (l : List ℕ). b ∷ l) (front bs n (omega arith))
-
--- entries that are the same one by one
-listed-same : {A : Type 0} (n : ℕ) (f g : ℕ → A) → ((i : ℕ) → i < n → f i ≡ g i) → listed n f ≡ listed n g
-unfolding listed
-listed-same zero f g h = refl
-listed-same {A} (suc n) f g h =
-    ap (λ (a : A). a ∷ listed n (λ i. f (suc i))) (h zero (omega arith))
-    ∙ ap (λ (l : List A). g zero ∷ l) (listed-same n (λ i. f (suc i)) (λ i. g (suc i)) (λ i lt. h (suc i) (omega arith)))
 
 -- a plan's record is 400 bytes
 pub plan-bytes : (p : Plan) → length (planBytes p) ≡ planLength

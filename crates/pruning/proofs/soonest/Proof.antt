@@ -1,6 +1,6 @@
 -- `soonest`: slots that every win keeps to. Only the checker need believe this file.
-use mathlib.Core.Path.{_≡_}
-use Prim.Native.Nat.{ℕ, _<_, zero-le}
+use mathlib.Core.Path.{_≡_, sym, subst}
+use Prim.Native.Nat.{ℕ, _≤_, _<_, zero-le}
 use borrow.Author.Needs.{needs}
 use lib.ListN.{getD}
 use Rattle.plan.proofs.SliceLaws.{all-same}
@@ -35,7 +35,7 @@ returns c wf ok =
     table-timely (a .plan) wf (a .at) ok (rw is at small) (rows .result) (rows .ensures (wf .constraints)) (c .soonest .result) (rw is at below)
 
 returns-2 : tie.Need-returns-2
-returns-2 c wf ok m w x y = rw (all-same {E = ℕ} 8 0 x) zero-le
+returns-2 c wf ok m w x y = subst (λ (n : ℕ). n ≤ m .slot) (sym (all-same {E = ℕ} 8 0 x)) zero-le
 
 pub soonest-spec : {M : Type 1} → statement M
 soonest-spec = tie.close (tie.spec view-requires are-slots-requires rows-of-requires soonest-requires returns returns-2)
