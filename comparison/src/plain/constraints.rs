@@ -17,18 +17,13 @@ impl Constraint {
             || i16::from(slots[self.to as usize]) - i16::from(slots[self.from as usize]) <= self.bound
     }
 
-    /// The earliest slot that the constraint leaves its `from`; 0 where its label does not hold.
-    fn asked_slot(&self, slots: &Slots, values: u8) -> i16 {
-        if self.label_holds(values) {
-            i16::from(slots[self.to as usize]) - self.bound
-        } else {
-            0
-        }
-    }
-
-    /// Moves `from` to the slot that is asked if it stands earlier, and to the cap at most.
+    /// Moves `from` to the slot that is asked if it stands earlier, and to the cap at most. Where the label does not hold
+    /// nothing is asked.
     fn take_turn(&self, slots: &mut Slots, values: u8, cap: u8) {
-        let asked = self.asked_slot(slots, values).clamp(0, i16::from(cap)) as u8;
+        if !self.label_holds(values) {
+            return;
+        }
+        let asked = (i16::from(slots[self.to as usize]) - self.bound).clamp(0, i16::from(cap)) as u8;
         let slot = &mut slots[self.from as usize];
         *slot = asked.max(*slot);
     }
