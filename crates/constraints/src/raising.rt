@@ -60,16 +60,24 @@ fn take_turn(c: Constraint, slots: &mut [u8; 8], values: u8, cap: u8)
     no_earlier(slots, c.from, slot);
 }
 
-// One round of the raise: each of the constraints in the rows takes its turn.
+// One round of the raise, in place: each of the constraints in the rows takes its turn.
+pub fn raise_in(rows: &[u16; 320], count: u8, slots: &mut [u8; 8], values: u8, cap: u8)
+    requires { ⌜ length (now slots) ≡ 8 ⌝ }
+    ensures { λ r. ⌜ now (slots .exit) ≡ turns cap (bit values) (now (slots .entry)) (rowsSay count (now (rows .entry))) ⌝ }
+{
+    let mut k: u8 = 0;
+    while k < count {
+        take_turn(rows::row_at(rows, k), slots, values, cap);
+        k += 1;
+    }
+}
+
+// One round of slots that are handed on.
 pub fn raise(rows: &[u16; 320], count: u8, slots: [u8; 8], values: u8, cap: u8) -> [u8; 8]
     ensures { λ r. ⌜ r ≡ turns cap (bit values) slots (rowsSay count (now (rows .entry))) ⌝ }
 {
     let mut moved = slots;
-    let mut k: u8 = 0;
-    while k < count {
-        take_turn(rows::row_at(rows, k), &mut moved, values, cap);
-        k += 1;
-    }
+    raise_in(rows, count, &mut moved, values, cap);
     moved
 }
 

@@ -105,7 +105,7 @@ module _ (cap : ℕ) (s : Scenario) where
 
   -- ---- a round
 
-  turns-length : (slots : List ℕ) (cs : List Constraint) → length (turns cap s slots cs) ≡ length slots
+  pub turns-length : (slots : List ℕ) (cs : List Constraint) → length (turns cap s slots cs) ≡ length slots
   unfolding turns
   turns-length slots [] = refl
   turns-length slots (c ∷ cs) = turns-length (turn cap s slots c) cs ∙ turn-length slots c

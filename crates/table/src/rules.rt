@@ -10,8 +10,8 @@ ghost use Rattle.network.specs.Mask.{bit};
 ghost use Rattle.table.specs.Table.{Past, Moves, Follows, Flipped, Tighter};
 
 // Whether some point stands later than it may.
-fn too_late(v: View, slots: [u8; 8]) -> bool
-    ensures { λ r. ⌜ (r ≡ true → (rows : List ℕ) (s : ℕ) → Past v rows s slots) ⌝ }
+fn too_late(v: View, slots: &[u8; 8]) -> bool
+    ensures { λ r. ⌜ (r ≡ true → (rows : List ℕ) (s : ℕ) → Past v rows s (now (slots .entry))) ⌝ }
 {
     let cap = v.cap;
     let mut x: u8 = 0;
@@ -31,20 +31,20 @@ fn too_late(v: View, slots: [u8; 8]) -> bool
 fn at_rest(v: View, rows: &[u16; 320], slots: [u8; 8], s: u8) -> [u8; 8]
     ensures { λ r. ⌜ Moves v (now (rows .entry)) s slots r ⌝ }
 {
-    let mut now = slots;
+    let mut moved = slots;
     let mut n: u16 = 0;
     while n < 600 {
-        let next = raising::raise(rows, v.constraints, now, s, 255);
-        if raising::same_slots(now, next) {
-            return now;
+        let before = moved;
+        raising::raise_in(rows, v.constraints, &mut moved, s, 255);
+        if too_late(v, &moved) {
+            return moved;
         }
-        if too_late(v, next) {
-            return next;
+        if raising::same_slots(before, moved) {
+            return moved;
         }
-        now = next;
         n += 1;
     }
-    now
+    moved
 }
 
 // The constraint rule for setting s, from these slots on. A setting in which some point would stand too late is struck.
@@ -53,7 +53,7 @@ pub fn keep_constraints(v: View, rows: &[u16; 320], table: &mut [u8; 512], s: u8
     ensures { λ r. ⌜ Follows v (now (rows .entry)) s slots (now (table .entry)) (now (table .exit)) ⌝ }
 {
     let moved = at_rest(v, rows, slots, s);
-    if too_late(v, moved) {
+    if too_late(v, &moved) {
         cells::strike(table, s);
         return;
     }

@@ -14,14 +14,14 @@ strike-requires : tie.Need-strike-requires
 strike-requires c κs = search needs
 
 returns : tie.Need-returns
-returns c = follows-strike (c .before .before .before .before .at-rest .ensures)
+returns c = follows-strike (c .before .before .before .before .before .at-rest .ensures)
     (c .before .before .before .too-late .ensures (c .before .before .if1 .taken) _ _) (c .strike .ensures)
 
 put-row-requires : tie.Need-put-row-requires
 put-row-requires c κs = search needs
 
 returns-2 : tie.Need-returns-2
-returns-2 c = follows-put (c .before .before .before .before .at-rest .ensures) (c .put-row .ensures)
+returns-2 c = follows-put (c .before .before .before .before .before .at-rest .ensures) (c .put-row .ensures)
 
 pub keep-constraints-spec : {M : Type 1} → statement M
 keep-constraints-spec =

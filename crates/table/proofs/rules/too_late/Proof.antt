@@ -25,12 +25,12 @@ array-read-if2 c = search needs
 cast-if2-2 : tie.Need-cast-if2-2 Inv-loop μ-loop
 cast-if2-2 c = search needs
 
-array-read-if2-2 : tie.Need-array-read-if2-2 Inv-loop μ-loop
-array-read-if2-2 c = search needs
+element-copy-out-if2 : tie.Need-element-copy-out-if2 Inv-loop μ-loop
+element-copy-out-if2 c = search needs
 
 returns : tie.Need-returns Inv-loop μ-loop
 returns c =
-    λ e rows s. late-past (c .before .before .before .before .loop .x) (c .before .if1 .taken) (c .if2 .taken)
+    λ e rows s. late-past (c .before .before .before .before .before .loop .x) (c .before .before .if1 .taken) (c .if2 .taken)
 
 add-x : tie.Need-add-x Inv-loop μ-loop
 add-x c = search needs
@@ -54,7 +54,7 @@ too-late-spec =
     cast-if2
     array-read-if2
     cast-if2-2
-    array-read-if2-2
+    element-copy-out-if2
     returns
     add-x
     loop-less
