@@ -52,12 +52,12 @@ pub fn keep_constraints(v: View, rows: &[u16; 320], table: &mut [u8; 512], s: u8
     requires { ⌜ s < 64 ⌝ }
     ensures { λ r. ⌜ Follows v (now (rows .entry)) s slots (now (table .entry)) (now (table .exit)) ⌝ }
 {
-    let moved = at_rest(v, rows, slots, s);
-    if too_late(v, &moved) {
+    let rest = at_rest(v, rows, slots, s);
+    if too_late(v, &rest) {
         cells::strike(table, s);
         return;
     }
-    cells::put_row(table, s, moved);
+    cells::put_row(table, s, rest);
 }
 
 // Two to the power q: the mask of letter q alone.
