@@ -13,6 +13,11 @@ use Rattle.plan.specs.Letters.{heardBy, settledBy}
 use Rattle.table.specs.declared.View.{View}
 use Rattle.game.specs.declared.Position.{Position}
 use Rattle.game.specs.Position.{slotsAfter}
+use Rattle.pruning.specs.declared.Outline.{Outline}
+
+-- a plan but for its constraints
+abbrev pub outlineOf : Plan → Outline
+outlineOf p = record { horizon = p .horizon; points = p .points; letters = p .letters; constraints = p .constraints; letter = p .letter }
 
 -- the letters that a point discloses, of the first so many
 abbrev pub lettersAt : List Letter → ℕ → ℕ → ℕ

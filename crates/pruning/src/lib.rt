@@ -3,6 +3,7 @@ pub mod view;
 
 use constraints::rows;
 use game::Position;
+use plan::Letter;
 use plan::Plan;
 use plan::letters;
 use tree::Node;
@@ -19,6 +20,16 @@ ghost use Rattle.plan.specs.WellFormed.{WellFormed};
 ghost use Rattle.constraints.specs.Rows.{rowsSay};
 ghost use Rattle.tree.specs.Trees.{moveOf};
 ghost use Rattle.game.specs.Position.{stateOf, Proper};
+ghost use Rattle.pruning.specs.Pruning.{outlineOf};
+
+// A plan but for its constraints: 16 bytes, where the whole record would be copied for each state.
+pub struct Outline {
+    pub horizon: u8,
+    pub points: u8,
+    pub letters: u8,
+    pub constraints: u8,
+    pub letter: [Letter; 6],
+}
 
 // Whether none of these is 255, which stands for no slot in a table.
 fn are_slots(slots: [u8; 8]) -> bool
@@ -34,12 +45,12 @@ fn are_slots(slots: [u8; 8]) -> bool
     true
 }
 
-// The test of a state, by the rows of the plan's constraints.
-fn lost_by(rows: &[u16; 320], plan: Plan, at: Position) -> bool
-    ensures { λ r. ⌜ (rowsSay (plan .constraints) (now (rows .entry)) ≡ networkOf plan .constraints → WellFormed plan → Proper plan at
-        → r ≡ true → ¬ CanBeWon (networkOf plan) (stateOf plan at)) ⌝ }
+// The test of a state, by the outline of the plan and the rows of its constraints.
+fn lost_by(rows: &[u16; 320], o: Outline, at: Position) -> bool
+    ensures { λ r. ⌜ ((plan : Plan) → outlineOf plan ≡ o → rowsSay (plan .constraints) (now (rows .entry)) ≡ networkOf plan .constraints
+        → WellFormed plan → Proper plan at → r ≡ true → ¬ CanBeWon (networkOf plan) (stateOf plan at)) ⌝ }
 {
-    let v = view::view(plan, at);
+    let v = view::view(o, at);
     let cap = v.cap;
     if are_slots(cap) {
         return table::hopeless(v, rows);
@@ -53,7 +64,7 @@ pub fn lost(plan: Plan, at: Position) -> bool
     ensures { λ r. ⌜ (WellFormed plan → Proper plan at → r ≡ true → ¬ CanBeWon (networkOf plan) (stateOf plan at)) ⌝ }
 {
     let rows = rows::rows_of(plan);
-    lost_by(&rows, plan, at)
+    lost_by(&rows, view::outline_of(plan), at)
 }
 
 // Whether the test says lost after some outcome of a legal move: then the move does not win.
@@ -62,12 +73,13 @@ pub fn move_lost(plan: Plan, at: Position, v: Node) -> bool
         → ¬ Winning (networkOf plan) (stateOf plan at) (moveOf v)) ⌝ }
 {
     let rows = rows::rows_of(plan);
+    let o = view::outline_of(plan);
     let heard = letters::heard(plan, v.points);
     let outcomes = masks::submasks(heard);
     let mut k: u16 = 0;
     while k < outcomes {
         let next = game::after(at, v, masks::numbered(heard, k));
-        if lost_by(&rows, plan, next) {
+        if lost_by(&rows, o, next) {
             return true;
         }
         k += 1;
@@ -80,7 +92,7 @@ pub fn soonest(plan: Plan, at: Position) -> [u8; 8]
     ensures { λ r. ⌜ (WellFormed plan → Proper plan at → (m : Move) → Winning (networkOf plan) (stateOf plan at) m → (x : ℕ)
         → bit (m .points) x ≡ true → slotsIn r x ≤ m .slot) ⌝ }
 {
-    let v = view::view(plan, at);
+    let v = view::view(view::outline_of(plan), at);
     let cap = v.cap;
     if are_slots(cap) {
         let rows = rows::rows_of(plan);

@@ -1,4 +1,5 @@
 // The view of a position: what the table of least slots needs to know of it.
+use crate::Outline;
 use game::Position;
 use plan::Letter;
 use plan::Plan;
@@ -9,7 +10,21 @@ ghost use Prim.Native.Nat.{_^_, _<_};
 ghost use lib.Bits.{bitOr};
 ghost use lib.ListN.{length, getD, set};
 ghost use Rattle.plan.specs.Plan.{zeroLetter, listed};
-ghost use Rattle.pruning.specs.Pruning.{lettersAt, viewOf};
+ghost use Rattle.pruning.specs.Pruning.{outlineOf, lettersAt, viewOf};
+
+// What the view needs of a plan.
+pub fn outline_of(plan: Plan) -> Outline
+    ensures { λ r. ⌜ r ≡ outlineOf plan ⌝ }
+{
+    let letter = plan.letter;
+    Outline {
+        horizon: plan.horizon,
+        points: plan.points,
+        letters: plan.letters,
+        constraints: plan.constraints,
+        letter: letter,
+    }
+}
 
 // The disclosing point of each letter.
 fn disclosing(entries: [Letter; 6]) -> [u8; 6]
@@ -52,23 +67,22 @@ fn own(entries: [Letter; 6], count: u8) -> [u8; 8]
     out
 }
 
-// The view of a position. (The remainder is a byte no later than the first open slot.) The letters are handed on, and not the plan, which
-// would be copied for each of them.
-pub fn view(plan: Plan, at: Position) -> View
-    ensures { λ r. ⌜ r ≡ viewOf plan at ⌝ }
+// The view of a position. (The remainder is a byte no later than the first open slot.)
+pub fn view(o: Outline, at: Position) -> View
+    ensures { λ r. ⌜ ((p : Plan) → outlineOf p ≡ o → r ≡ viewOf p at) ⌝ }
 {
     let slots = at.slots;
-    let entries = plan.letter;
+    let entries = o.letter;
     View {
-        constraints: plan.constraints,
-        points: plan.points,
+        constraints: o.constraints,
+        points: o.points,
         left: at.left,
         values: at.values,
-        unheard: letters::disclosed_of_kind(entries, plan.letters, false, at.left),
-        undecided: letters::disclosed_of_kind(entries, plan.letters, true, at.left),
+        unheard: letters::disclosed_of_kind(entries, o.letters, false, at.left),
+        undecided: letters::disclosed_of_kind(entries, o.letters, true, at.left),
         low: game::slots_after(slots, at.left, (at.earliest % 256) as u8),
-        cap: game::slots_after(slots, at.left, plan.horizon),
+        cap: game::slots_after(slots, at.left, o.horizon),
         disclosing: disclosing(entries),
-        own: own(entries, plan.letters),
+        own: own(entries, o.letters),
     }
 }

@@ -1,4 +1,5 @@
 -- `lost`: what is called says it. Only the checker need believe this file.
+use mathlib.Core.Path.{sym}
 use borrow.Author.Needs.{needs}
 use Rattle.pruning.proofs.lost.Statement.{statement}
 use Rattle.pruning.proofs.lost.Tie as tie
@@ -6,11 +7,14 @@ use Rattle.pruning.proofs.lost.Tie as tie
 rows-of-requires : tie.Need-rows-of-requires
 rows-of-requires c κs = search needs
 
+outline-of-requires : tie.Need-outline-of-requires
+outline-of-requires c κs = search needs
+
 lost-by-requires : tie.Need-lost-by-requires
 lost-by-requires c κs = search needs
 
 returns : tie.Need-returns
-returns c wf = c .lost-by .ensures (c .before .before .rows-of .ensures (wf .constraints)) wf
+returns c wf = c .lost-by .ensures _ (sym (c .before .outline-of .ensures)) (c .before .before .before .rows-of .ensures (wf .constraints)) wf
 
 pub lost-spec : {M : Type 1} → statement M
-lost-spec = tie.close (tie.spec rows-of-requires lost-by-requires returns)
+lost-spec = tie.close (tie.spec rows-of-requires outline-of-requires lost-by-requires returns)

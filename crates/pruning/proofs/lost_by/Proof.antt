@@ -20,16 +20,16 @@ hopeless-requires : tie.Need-hopeless-requires
 hopeless-requires c κs = search needs
 
 returns : tie.Need-returns
-returns c say wf ok e =
+returns c p same say wf ok e =
     let a = c .before .before .before .before .before .args in
     let seen = c .before .before .before .before .view in
-    let is : seen .result ≡ viewOf (a .plan) (a .at) = seen .ensures in
+    let is : seen .result ≡ viewOf p (a .at) = seen .ensures p same in
     let small : (x : ℕ) → x < 8 → getD (seen .result .cap) x 0 < 255 = c .before .before .are-slots .ensures (c .before .if1 .taken) in
     let none : ¬ Win (seen .result) (a .rows .now) = c .hopeless .ensures e in
-    table-lost (a .plan) wf (a .at) ok (rw is at small) (a .rows .now) say (rw is at none)
+    table-lost p wf (a .at) ok (rw is at small) (a .rows .now) say (rw is at none)
 
 returns-2 : tie.Need-returns-2
-returns-2 c say wf ok e = clash e refl
+returns-2 c p same say wf ok e = clash e refl
 
 pub lost-by-spec : {M : Type 1} → statement M
 lost-by-spec = tie.close (tie.spec view-requires are-slots-requires hopeless-requires returns returns-2)

@@ -1,5 +1,5 @@
 -- `move_lost`: an outcome after which the state is lost decides. Only the checker need believe this file.
-use mathlib.Core.Path.{_≡_, refl, ap, _∙_}
+use mathlib.Core.Path.{_≡_, refl, sym, ap, _∙_}
 use mathlib.Core.Bool.{true}
 use Prim.Native.Nat.{ℕ, _-_}
 use native.Mathlib.Omega.{arith}
@@ -28,10 +28,10 @@ long c = search needs
 
 -- the position after outcome k
 is-next : (c : tie.After-after Inv-loop μ-loop) →
-    let a = c .before .before .before .before .before .before .before .args in
+    let a = c .before .before .before .before .before .before .before .before .args in
     c .after .result ≡ next (a .plan) (a .at) (a .v) (c .before .before .before .loop .k)
 is-next c =
-    let a = c .before .before .before .before .before .before .before .args in
+    let a = c .before .before .before .before .before .before .before .before .args in
     let k = c .before .before .before .loop .k in
     let letters = c .before .before .before .before .before .heard in
     let outcome = c .before .numbered in
@@ -41,6 +41,9 @@ is-next c =
 
 rows-of-requires : tie.Need-rows-of-requires Inv-loop μ-loop
 rows-of-requires c κs = search needs
+
+outline-of-requires : tie.Need-outline-of-requires Inv-loop μ-loop
+outline-of-requires c κs = search needs
 
 heard-requires : tie.Need-heard-requires Inv-loop μ-loop
 heard-requires c κs = search needs
@@ -62,17 +65,18 @@ lost-by-requires c κs = search needs
 
 returns : tie.Need-returns Inv-loop μ-loop
 returns c =
-    let s = c .before .before .before .before .before .before .before .before .before .before in
+    let s = c .before .before .before .before .before .before .before .before .before .before .before in
     let a = s .args in
     let k = c .before .before .before .before .before .before .loop .k in
     let test = c .before .lost-by in
-    let said = c .before .before .before .before .before .before .before .before .before .rows-of .ensures in
+    let said = c .before .before .before .before .before .before .before .before .before .before .rows-of .ensures in
+    let outline = c .before .before .before .before .before .before .before .before .before .outline-of .ensures in
     let yes : test .result ≡ true = c .if1 .taken in
     λ wf ok lg e.
     let proper : Proper (a .plan) (c .before .before .before .after .result)
     = rw (is-next (c .before .before .before)) (next-proper (a .plan) wf (a .at) ok (a .v) lg k) in
     let gone : ¬ CanBeWon (networkOf (a .plan)) (stateOf (a .plan) (c .before .before .before .after .result))
-    = test .ensures (said (wf .constraints)) wf proper yes in
+    = test .ensures (a .plan) (sym outline) (said (wf .constraints)) wf proper yes in
     move-wins-nothing (a .plan) wf (a .at) ok (long s) (a .v) lg k (rw (is-next (c .before .before .before)) at gone)
 
 add-k : tie.Need-add-k Inv-loop μ-loop
@@ -94,6 +98,7 @@ move-lost-spec =
     Inv-loop
     μ-loop
     rows-of-requires
+    outline-of-requires
     heard-requires
     submasks-requires
     loop-holds
