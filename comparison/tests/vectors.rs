@@ -1,4 +1,4 @@
-//! The shared vectors through the proved calls: what the program prints, and every path of every tree.
+//! The vectors of crates/vectors through the proved calls: what the program prints, and every path of every tree.
 
 use comparison::compare::check;
 use comparison::expected::{history_bytes, Expected};

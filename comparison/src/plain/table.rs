@@ -34,9 +34,9 @@ const STRUCK: Slots = [NO_SLOT; 8];
 type Scenarios = u64;
 const ALL_SCENARIOS: Scenarios = !0;
 
-/// The setting s with the letters of the set as d has them.
+/// The setting s with the letters of the set as d has them. The remainder spares a test where a table is read.
 fn set_to(s: u8, set: u8, d: u8) -> u8 {
-    s & !set | d
+    (s & !set | d) % 64
 }
 
 /// Whether scenario c is in the set.
@@ -242,31 +242,29 @@ impl View<'_> {
     // The whole test.
 
     /// The first table: in each setting the earliest slots, moved to where the constraints ask.
-    fn first_rows(&self) -> Table {
-        let mut table = [[0; 8]; 64];
+    fn first_rows(&self, table: &mut Table) {
         for s in self.settings() {
-            self.keep_constraints(&mut table, s, self.low);
+            self.keep_constraints(table, s, self.low);
         }
-        table
     }
 
-    /// Both rules and probing, as far as they go, and whether no win is left.
-    fn settled(&self) -> (Table, bool) {
-        let mut table = self.first_rows();
-        let lost = !self.all_remain(&table, ALL_SCENARIOS)
-            || !self.tighten(&mut table, ALL_SCENARIOS)
-            || self.unheard != 0 && self.undecided != 0 && self.refutes(&mut table);
-        (table, lost)
+    /// Both rules and probing, as far as they go. Says whether no win is left.
+    fn settle(&self, table: &mut Table) -> bool {
+        self.first_rows(table);
+        !self.all_remain(table, ALL_SCENARIOS)
+            || !self.tighten(table, ALL_SCENARIOS)
+            || self.unheard != 0 && self.undecided != 0 && self.refutes(table)
     }
 
     /// Says true only where there is no win.
     pub fn hopeless(&self) -> bool {
-        self.settled().1
+        self.settle(&mut [[0; 8]; 64])
     }
 
     /// For each point a slot before which no win performs it: the least in any setting.
     pub fn soonest(&self) -> Slots {
-        let (table, _) = self.settled();
+        let mut table = [[0; 8]; 64];
+        self.settle(&mut table);
         let mut least = STRUCK;
         for s in self.settings() {
             for (slot, &other) in least.iter_mut().zip(&table[s as usize]) {

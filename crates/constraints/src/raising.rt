@@ -25,6 +25,7 @@ fn least_from(y: u8, bound: u16) -> u32
     t - d
 }
 
+// The slot v, or the cap where that is earlier.
 fn at_most_cap(cap: u8, v: u32) -> u8
     ensures { λ r. ⌜ r ≡ min cap v ⌝ }
 {

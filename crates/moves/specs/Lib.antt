@@ -1,2 +1,2 @@
--- Definitions: the modules of this folder. A reader must believe them.
+-- Definitions: the modules of this folder. A reader need not believe them.
 pub mod Moves

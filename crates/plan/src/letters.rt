@@ -14,7 +14,7 @@ fn one_if(b: bool) -> u8
     if b { 1 } else { 0 }
 }
 
-// Whether l is one of the decisions, or else one of the conditions.
+// Where `decided`, whether l is a decision; else whether it is a condition.
 fn is_of_kind(l: Letter, decided: bool) -> bool
     ensures { λ r. ⌜ ((p : Plan) (i : ℕ) → i < p .letters → letterAt p i ≡ l → r ≡ ofKind (networkOf p) decided i) ⌝ }
 {

@@ -5,7 +5,7 @@ ghost use lib.Dec.{eqb};
 ghost use lib.ListN.{getD, replicate};
 ghost use Rattle.table.specs.Table.{setTo, entry, Put};
 
-// The setting s with the letters of the set as d has them.
+// The setting s with the letters of the set as d has them. There are at most six letters; the remainder says that a setting is below 64.
 pub fn set_to(s: u8, set: u8, d: u8) -> u8
     ensures { λ r. ⌜ (r ≡ setTo s set d) × (r < 64) ⌝ }
 {

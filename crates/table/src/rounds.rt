@@ -10,7 +10,8 @@ ghost use Prim.Native.Nat.{ℕ, _<_};
 ghost use Rattle.network.specs.Mask.{bit};
 ghost use Rattle.table.specs.Table.{nearby, Tighter, Lost, AllStruck};
 
-// Both rules for setting s. Says whether the table changes. The row rests under the constraint rule before.
+// Both rules for setting s. Says whether the table changes. Before the call the row rests under the constraint rule, so where the flip rule
+// moves nothing there is nothing to do.
 fn tighten_setting(v: View, rows: &[u16; 320], table: &mut [u8; 512], s: u8) -> bool
     requires { ⌜ s < 64 ⌝ }
     ensures { λ r. ⌜ Tighter v (now (rows .entry)) (now (table .entry)) (now (table .exit)) ⌝ }

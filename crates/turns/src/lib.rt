@@ -49,7 +49,8 @@ pub fn agent(plan: Plan, at: Position, buf: &mut [u8]) -> Turn
     }
 }
 
-// The world's turn after a legal move: each outcome in turn, its subtree directly behind the one before.
+// The world's turn after a legal move: all outcomes are tested before any subtree is written; then each in turn, its subtree directly behind
+// the one before.
 fn world(plan: Plan, at: Position, v: Node, buf: &mut [u8]) -> Turn
     requires { ⌜ WellFormed plan × Proper plan at × Legal (networkOf plan) (stateOf plan at) (moveOf v)
         × (3 * mostBehind (networkOf plan) (stateOf plan at) (moveOf v) ≤ length (now buf)) ⌝ }

@@ -189,8 +189,8 @@ fn linked() -> String {
 fn inputs() -> String {
     format!(
         "\
-Inputs: the shared vectors. A plan text that is refused counts for read_plan only; search has every other vector. Trees
-are the vectors' own. show, report: at the start, and at the last node of the first and of the last path.
+Inputs: the vectors of crates/vectors. A plan text that is refused counts for read_plan only; search has every other
+vector. Trees are the vectors' own. show, report: at the start, and at the last node of the first and of the last path.
 least_schedule: every setting of the letters.
 search is measured without the reference, which does not finish the hard plans. Quarter, 3 quarters, 9 of 10: such a
 share of the plans takes so long at most. The run fails where a search does not give the bytes of the vector's output,

@@ -1,4 +1,4 @@
-//! The shared vectors, and the inputs that each call gets from one.
+//! The vectors of crates/vectors, and the inputs that each call gets from one.
 
 use crate::fail;
 use comparison::library::{Answer, Case};
