@@ -13,9 +13,10 @@ use Rattle.tree_text.specs.TreeText.{treeText}
 use Rattle.checker.specs.Checker.{checkFault}
 use Rattle.checker.proofs.Cases.{k4-and-k11-to-k13}
 use Rattle.verdict.proofs.Cases.{screens}
-use Rattle.search.proofs.Cases.{k1-to-k3, k4-and-k5, k6-answer, k7-and-k8, k9-and-k10}
+use Rattle.search.proofs.Cases.{k1-to-k3, k4-and-k5, k7-and-k8, k9-and-k10}
 use Rattle.run.proofs.Cases.{running, k14-told, k14-accepts, k14-refuses, k14-after-done}
 use Rattle.cases.specs.Cases.{Cases, k1, k2, k3, k4, k5, k6, k7, k8, k9, k10, k12-second}
+use Rattle.cases.proofs.SearchCases.{k6-answer}
 use Rattle.cases.proofs.PrintedLaws.{makes-tree, prints-tree, prints-hopeless}
 
 -- ---- What is computed here. To unfold a name of this section is to unfold all that its line names.

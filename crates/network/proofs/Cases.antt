@@ -183,6 +183,11 @@ later-schedule =
 pub later-not-least : ¬ Least waits (bit 0) (slots 1 3)
 later-not-least l = let e : 1 ≤ 0 = l .earliest (slots 0 2) (least-schedule .schedule) 0 (omega arith) in omega arith
 
+-- a mask that has a letter which the network lacks is no setting
+pub letter-lacking : (¬ Setting k1 1) × (¬ Setting k4 2)
+unfolding bit
+letter-lacking = ((λ s. omega (arith, s 0 refl)), (λ s. omega (arith, s 1 refl)))
+
 -- K6 passes the screen, K8 does not
 pub k6-passes : PassesScreen k6
 k6-passes m setting =

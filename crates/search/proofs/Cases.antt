@@ -1,6 +1,6 @@
--- Cases: document 01's plans K1 to K10, searched by computing; moves in their order; each refusal. Only the checker need believe this file;
--- a reader may like to.
-use mathlib.Core.Path.{_≡_, refl, sym, ap, _∙_}
+-- Cases: document 01's plans K1 to K5 and K7 to K10, searched by computing (K6 takes seconds, and stands in cases/proofs/SearchCases.antt);
+-- moves in their order; each refusal. Only the checker need believe this file; a reader may like to.
+use mathlib.Core.Path.{_≡_, refl}
 use mathlib.Core.List.{List, [], _∷_, _++_}
 use mathlib.Core.Bool.{true}
 use Prim.Native.Nat.{ℕ}
@@ -14,13 +14,12 @@ use Rattle.plan.specs.declared.Plan.{Plan}
 use Rattle.plan.specs.declared.Constraint.{Constraint}
 use Rattle.plan.specs.Answer.{unless, first, Answer, fine, answered}
 use Rattle.plan.specs.Plan.{signed, listed, networkOf}
-use Rattle.plan.proofs.Cases.{letter, constraint, record-of, plan, one-point, k4, k5, k6, k7, k8}
+use Rattle.plan.proofs.Cases.{letter, constraint, record-of, plan, one-point, k4, k5, k7, k8}
 use Rattle.judge.specs.Judge.{headFine, takenBefore, letterFine, letterUnused, letterEntry, lettersFine}
 use Rattle.judge.specs.Judge.{boundFine, constraintFine, constraintUnused, constraintEntry, constraintsFine, planFault}
 use Rattle.tree.specs.Trees.{movesBytes}
 use Rattle.checker.proofs.Cases.{k4-tree, never, four-ways}
 use Rattle.search.specs.Search.{searchFault, searchAnswer, searchLeaves}
-use Rattle.search.proofs.SearchTheorems.{fault-is, hopeless-leaves}
 
 -- ---- What is computed here. To unfold a name of this section is to unfold all that its line names.
 
@@ -51,14 +50,14 @@ computing = tt
 -- ---- What is lent, and what is to be found in it.
 
 -- 575 bytes are lent, none of them 0
-abbrev lent : List ℕ
+abbrev pub lent : List ℕ
 lent = replicate 573 255 ++ (7 ∷ 8 ∷ [])
 
 -- a tree, so many zeros behind it, and the last two bytes as they were
-abbrev holding : List ℕ → ℕ → List ℕ
+abbrev pub holding : List ℕ → ℕ → List ℕ
 holding tree n = tree ++ (replicate n 0 ++ (7 ∷ 8 ∷ []))
 
-abbrev refuses : ℕ → Answer ℕ
+abbrev pub refuses : ℕ → Answer ℕ
 refuses n = record { fault = n; value = 0 }
 
 -- given xs, the search answers a and leaves ys
@@ -82,14 +81,6 @@ k1-to-k3 = ((refl, refl), (refl, refl), (refl, refl))
 pub k4-and-k5 : Gives k4 lent (fine 3) (holding k4-tree 564) × Gives k5 lent (refuses 11) (holding [] 573)
 unfolding computing
 k4-and-k5 = ((refl, refl), (refl, refl))
-
--- K6: K4 with the first bound 0, horizon 63
-pub k6-answer : searchAnswer k6 lent ≡ refuses 11
-unfolding computing
-k6-answer = refl
-
-pub k6-leaves : searchLeaves k6 lent ≡ holding [] 573
-k6-leaves = hopeless-leaves k6 lent (sym (fault-is k6 lent) ∙ ap (λ (x : Answer ℕ). x .fault) k6-answer)
 
 -- K6 with a decision for the condition, at horizon 2 and at horizon 1
 pub k7-and-k8 :
