@@ -6,7 +6,7 @@ use crate::log::{errors, Error, File, Function, Kind, Said};
 /// What refused the wrong program, in a few words; or why its refusal shows nothing.
 ///
 /// - An edit of functions alone: each of them is not proved, and the first error in its own proof is a fact that fails:
-///   what the code does is not what its contract says. Where the toolchain makes the proof by itself, it says which
+///   what the code does is not what its contract says (loops' measures are passed over: they belong to the proof). Where the toolchain makes the proof by itself, it says which
 ///   need it could not prove.
 /// - Any other edit names what refuses it. `fact: NAME` is a case, law or theorem that is false with the edit, and the
 ///   first error there shows it. `fact: fn NAME` is a function that does not do what the wrong definition says. `claim:
@@ -49,7 +49,7 @@ fn function(f: &Function, errors: &[Error], log: &str) -> Result<String, String>
         Said::Proved => Err(format!("`{}` is still proved", f.name)),
         Said::NotClosed(needs) => Ok(format!("{needs} of `{}`", f.name)),
         Said::NotProved => {
-            let first = errors.iter().find(|e| f.owns(e));
+            let first = errors.iter().find(|e| f.owns(e) && !e.of_a_measure());
             let first = first.ok_or_else(|| format!("no error stands in the proof of `{}`", f.name))?;
             among(first, &[Kind::Fact, Kind::Differ]).map(|()| format!("`{}` of `{}`", first.declaration, f.name))
         }

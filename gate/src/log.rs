@@ -31,8 +31,6 @@ impl Error {
             Kind::NotAdmitted
         } else if NAMES.iter().any(|n| first.contains(n)) {
             Kind::Name
-        } else if self.of_a_measure() {
-            Kind::Misfit
         } else if said.contains(BROKEN) || computed(&said) || literals(&said) {
             Kind::Fact
         } else if DIFFER.iter().any(|d| said.contains(d)) {
@@ -44,7 +42,7 @@ impl Error {
 
     /// Whether it says that a loop's measure does not fall: the need is called loop-less, with a number behind it from
     /// the second loop on. With another measure the loop might end all the same.
-    fn of_a_measure(&self) -> bool {
+    pub fn of_a_measure(&self) -> bool {
         self.declaration.trim_end_matches(|c: char| c.is_ascii_digit() || c == '-').ends_with("loop-less")
     }
 }
