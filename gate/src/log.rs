@@ -79,10 +79,10 @@ fn computed(said: &str) -> bool {
     found.match_indices(" ≡ ").any(|(at, sign)| found[..at].trim() == found[at + sign.len()..].trim())
 }
 
-/// The two sides differ only where one has one value and the other has another.
+/// Where the two sides first differ, one has one value and the other has another.
 fn literals(said: &str) -> bool {
     let value = |v: &str| v == "true" || v == "false" || (!v.is_empty() && v.bytes().all(|b| b.is_ascii_digit()));
-    let (one, other) = (quoted(said, "differ only where one has "), quoted(said, "the other has "));
+    let (one, other) = (quoted(said, "where one has "), quoted(said, "the other has "));
     matches!((one, other), (Some(a), Some(b)) if value(a) && value(b))
 }
 

@@ -1,5 +1,6 @@
-//! `gate try [--whole] [CRATE | CRATE/LABEL]..` tries the wrong programs of crates/*/wrong, each by itself; `gate judge` reads the
-//! logs of those and of the must-fail edits that rt ci tried. Run at the repository's root.
+//! `gate try [--whole] [CRATE | CRATE/LABEL]..` tries the wrong programs that are named, of both folders, or all of
+//! crates/*/wrong, each by itself; `gate judge` reads the logs of those and of the must-fail edits that rt ci tried.
+//! Run at the repository's root.
 
 use gate::judge::judge;
 use gate::repository::{crates, programs, read, Folder, Program};
@@ -25,21 +26,27 @@ fn main() -> ExitCode {
     }
 }
 
-/// All wrong programs of a kind that these words name; all of them where there is no word.
-fn named(root: &Path, folder: Folder, words: &[String]) -> Result<Vec<Program>, String> {
+/// The wrong programs of these folders, crate by crate.
+fn all(root: &Path, folders: &[Folder]) -> Result<Vec<Program>, String> {
     let mut found = Vec::new();
     for krate in crates(root)? {
-        found.extend(programs(root, &krate, folder)?);
-    }
-    for w in words {
-        if !found.iter().any(|p| p.name() == *w || p.krate == *w) {
-            return Err(format!("no wrong program is called {w}"));
+        for folder in folders {
+            found.extend(programs(root, &krate, *folder)?);
         }
     }
-    Ok(found
-        .into_iter()
-        .filter(|p| words.is_empty() || words.iter().any(|w| p.name() == *w || p.krate == *w))
-        .collect())
+    Ok(found)
+}
+
+/// Those that these words name, in either folder; where there is no word, all that rt ci leaves to be tried.
+fn named(root: &Path, words: &[String]) -> Result<Vec<Program>, String> {
+    if words.is_empty() {
+        return all(root, &[Folder::Wrong]);
+    }
+    let found = all(root, &[Folder::MustFail, Folder::Wrong])?;
+    if let Some(w) = words.iter().find(|w| !found.iter().any(|p| p.name() == **w || p.krate == **w)) {
+        return Err(format!("no wrong program is called {w}"));
+    }
+    Ok(found.into_iter().filter(|p| words.iter().any(|w| p.name() == *w || p.krate == *w)).collect())
 }
 
 /// Tries wrong programs and prints what refused each. How many were not refused for a fact of their own.
@@ -49,9 +56,9 @@ fn try_programs(words: &[String]) -> Result<usize, String> {
     if let Some(o) = options.iter().find(|o| *o != "--whole") {
         return Err(format!("{o} is no option"));
     }
-    let found = named(&root, Folder::Wrong, &names)?;
-    let all = crates(&root)?;
-    let concerned: Vec<String> = all.iter().filter(|c| found.iter().any(|p| p.krate == **c)).cloned().collect();
+    let found = named(&root, &names)?;
+    let crates = crates(&root)?;
+    let concerned: Vec<String> = crates.iter().filter(|c| found.iter().any(|p| p.krate == **c)).cloned().collect();
     let check = Command::new("rt").arg("check").args(&concerned).output().map_err(|e| format!("rt: {e}"))?;
     if !check.status.success() {
         return Err(format!("not all is proved:\n{}", String::from_utf8_lossy(&check.stdout)));
@@ -59,8 +66,13 @@ fn try_programs(words: &[String]) -> Result<usize, String> {
     let work = Work::new()?;
     let jobs = std::env::var("RT_JOBS").ok().and_then(|j| j.parse().ok());
     let jobs = jobs.or(std::thread::available_parallelism().ok().map(|n| n.get())).unwrap_or(1);
-    let trials =
-        Trials { root: &root, work: work.folder(), crates: &all, jobs, whole: options.iter().any(|o| o == "--whole") };
+    let trials = Trials {
+        root: &root,
+        work: work.folder(),
+        crates: &crates,
+        jobs,
+        whole: options.iter().any(|o| o == "--whole"),
+    };
     trials.keep_proofs(&concerned)?;
     let outcomes = trials.run(&found, &say);
     let failed = outcomes.iter().filter(|o| o.said.is_err()).count();
@@ -79,23 +91,20 @@ fn say(p: &Program, o: &Outcome) {
 /// Judges every log anew. How many wrong programs show nothing, or were not tried since they were written.
 fn judge_all() -> Result<usize, String> {
     let root = std::env::current_dir().map_err(|e| e.to_string())?;
+    let programs = all(&root, &[Folder::MustFail, Folder::Wrong])?;
     let mut faults = 0;
-    let mut judged = 0;
-    for folder in [Folder::MustFail, Folder::Wrong] {
-        for p in named(&root, folder, &[])? {
-            judged += 1;
-            let said = if tried(&p, &root) {
-                judge(&p.edit, &p.places, &read(&p.log(&root))?)
-            } else {
-                Err("it was not tried since it was written".to_string())
-            };
-            if let Err(why) = said {
-                println!("{}: {why}", p.name());
-                faults += 1;
-            }
+    for p in &programs {
+        let said = if tried(p, &root) {
+            judge(&p.edit, &p.places, &read(&p.log(&root))?)
+        } else {
+            Err("it was not tried since it was written".to_string())
+        };
+        if let Err(why) = said {
+            println!("{}: {why}", p.name());
+            faults += 1;
         }
     }
-    println!("{judged} wrong programs judged, {faults} faults");
+    println!("{} wrong programs judged, {faults} faults", programs.len());
     Ok(faults)
 }
 

@@ -60,14 +60,14 @@ pub fn check_tree(plan: Plan, nodes: &[u8]) -> Judged
         return judged;
     };
     if !tree::legal_length(nodes.len()) {
-        return Judged::Refused(Refusal::Shape);
+        return Judged::Refused(Refusal::Shape); // no tree has this length
     }
     let found = subtree(plan, nodes, game::start(plan));
     let Checked::Sound(count, kept) = found else {
-        return Judged::Refused(Refusal::Shape);
+        return Judged::Refused(Refusal::Shape); // some rule of shape is broken
     };
     if count != tree::node_count(nodes) {
-        return Judged::Refused(Refusal::Shape);
+        return Judged::Refused(Refusal::Shape); // nodes are left over
     }
     if !kept {
         return Judged::Refused(Refusal::Broken);
