@@ -9,7 +9,8 @@ use Rattle.network.proofs.JoinLaws.{join-length}
 use Rattle.following.specs.declared.Followed.{Followed}
 use Rattle.following.specs.Calls.{Progress}
 use Rattle.following.specs.Following.{zeroStep, stepRecord, followedRecord}
-use Rattle.tureenlark.specs.Library.{stepBytes, stepsBytes}
+use Rattle.answers.specs.Steps.{stepBytes}
+use Rattle.tureenlark.specs.Library.{stepsBytes}
 
 module _ (v : Followed) (r : Progress) (is : v ≡ followedRecord r) where
   pub record-count : v .count ≡ length (r .steps)

@@ -1,5 +1,4 @@
 -- Laws: the modules of this folder. Only the checker need believe them; LibraryTheorems.antt has statements to read.
-pub mod NumberLaws
 pub mod LibraryLaws
 pub mod FollowLaws
 pub mod LibraryTheorems

@@ -14,8 +14,9 @@ use Rattle.run.specs.Run.{Told, instruct, complete, refuse}
 use Rattle.verdict.specs.declared.Found.{Found}
 use Rattle.verdict.specs.declared.Found.the-variants as found
 use Rattle.verdict.specs.Verdict.{saying}
-use Rattle.tureenlark.specs.Numbers.{faultNumber, numbered}
-use Rattle.tureenlark.specs.Library.{shortFault, unlessShort, toldBytes}
+use Rattle.answers.specs.Numbers.{faultNumber, numbered}
+use Rattle.answers.specs.Steps.{toldBytes}
+use Rattle.tureenlark.specs.Library.{shortFault, unlessShort}
 
 -- a record that is too short, and one that is not
 pub short : (n : ℕ) (bs : List ℕ) → length bs < n → shortFault n bs ≡ 10
@@ -81,9 +82,6 @@ module _ (f : ℕ) where
   put-long bytes xs e h = ap (λ (b : Bool). cond b (sets xs 0 bytes) xs) (le-leb (0 + length bytes) (length xs) (omega arith)) ∙ filled-long bytes xs e h
 
 -- ---- what is told, and slots
-
-pub nothing-put : (xs : List ℕ) → xs ≡ putAt xs 0 []
-nothing-put xs = rw (le-leb 0 (length xs) (omega arith))
 
 pub few-bytes : (told : Told) → length (toldBytes told) ≤ 3
 few-bytes (instruct m) = omega arith

@@ -34,7 +34,7 @@ use Rattle.answer_text.specs.AnswerText.{answerText}
 use Rattle.answer_text.proofs.AnswerTextTheorems.{answer-fits}
 use Rattle.records.specs.Records.{planIn, planBytes, planLength, historyIn, historyBytes, historyLength}
 use Rattle.records.proofs.RecordsTheorems.{plan-bytes, plan-crosses, behind-ignored, history-bytes-cross}
-use Rattle.tureenlark.specs.Numbers.{faultNumber, numbered}
+use Rattle.answers.specs.Numbers.{faultNumber, numbered}
 use Rattle.tureenlark.specs.Library.{planShort, historyShort, readPlanLeft, writePlanNumber, readTreeNumber, writeTreeNumber, followShort, followed, followNumber, searchNumber, searchLeft, reportShort, reportAt, reportNumber, reportLeft, answerFault, answerTextNumber}
 use Rattle.tureenlark.proofs.FollowLaws.{steps-few}
 use Rattle.tureenlark.proofs.LibraryLaws.{short, long, number-short, left-short}

@@ -1,3 +1,2 @@
 -- Definitions: the modules of this folder, in the order in which they are read. A reader must believe them.
-pub mod Numbers
 pub mod Library

@@ -1,7 +1,7 @@
 -- Definitions: what each exported call answers and leaves in the buffers lent to it, for buffers of any length and contents. A reader must
 -- believe this file. Names follow the exported functions.
 use mathlib.Core.Bool.{cond}
-use mathlib.Core.List.{List, [], _∷_}
+use mathlib.Core.List.{List}
 use Prim.Native.Nat.{ℕ}
 use lib.Dec.{leb, eqb}
 use lib.ListN.{length, getD}
@@ -16,14 +16,14 @@ use Rattle.tree_text.specs.TreeText.{readTree, writeTree}
 use Rattle.checker.specs.Checker.{checkFault}
 use Rattle.search.specs.Search.{searchAnswer, searchLeaves}
 use Rattle.run.specs.declared.History.{History}
-use Rattle.run.specs.Run.{Told, instruct, complete, refuse, showAnswer, reportAnswer}
-use Rattle.following.specs.declared.Step.{Step}
+use Rattle.run.specs.Run.{Told, showAnswer, reportAnswer}
 use Rattle.following.specs.Calls.{planner, Progress, begun, afterCalls}
 use Rattle.following.specs.Following.{callsIn, zeroStep, followedRecord}
 use Rattle.verdict.specs.Verdict.{leastSchedule, screened}
 use Rattle.answer_text.specs.AnswerText.{answerText}
 use Rattle.records.specs.Records.{planIn, planBytes, planLength, historyIn, historyBytes, historyLength}
-use Rattle.tureenlark.specs.Numbers.{numbered, answerNumber, toldNumber, faultNumber}
+use Rattle.answers.specs.Numbers.{numbered, answerNumber, toldNumber, faultNumber}
+use Rattle.answers.specs.Steps.{toldBytes, stepBytes}
 
 -- ---- Records. One that is shorter than its layout is 10, before anything else is looked at.
 
@@ -100,12 +100,6 @@ showNumber plan tree history instruction =
     let fault = showShort plan history instruction in
     cond (eqb fault 0) (toldNumber (toldAt plan tree history)) (faultNumber fault)
 
--- the bytes of an instruction: slot, points, choices
-abbrev pub toldBytes : Told → List ℕ
-toldBytes (instruct m) = m .slot ∷ m .points ∷ m .choices ∷ []
-toldBytes complete = []
-toldBytes (refuse n) = []
-
 abbrev pub showLeft : List ℕ → List ℕ → List ℕ → List ℕ → List ℕ
 showLeft plan tree history instruction = filled (showShort plan history instruction) (toldBytes (toldAt plan tree history)) instruction
 
@@ -123,10 +117,7 @@ reportLeft plan tree history mask = filled (reportShort plan history) (historyBy
 
 -- ---- Lists of calls.
 
--- eight steps, four bytes each: slot, points and choices told, the mask reported
-abbrev pub stepBytes : Step → List ℕ
-stepBytes s = s .instruction .slot ∷ s .instruction .points ∷ s .instruction .choices ∷ s .report ∷ []
-
+-- eight steps
 unfoldable pub stepsBytes : Progress → List ℕ
 stepsBytes r = joinBelow 8 (λ i. stepBytes (getD (followedRecord r .steps) i zeroStep))
 

@@ -1,8 +1,7 @@
 // The planner's calls for programs in other languages: numbers and byte slices of any length and contents. docs/LIBRARY.md says the layouts.
 // Every call with a record is refused with 10 first where that is too short.
-mod numbers;
-mod steps;
-
+use answers::numbers;
+use answers::steps;
 use plan::Refusal;
 use records::history;
 use records::plan_record;
@@ -13,6 +12,13 @@ ghost use Rattle.tureenlark.specs.Library.{judgePlanNumber, readPlanNumb
 ghost use Rattle.tureenlark.specs.Library.{readTreeNumber, writeTreeNumber, checkTreeNumber, searchNumber, searchLeft};
 ghost use Rattle.tureenlark.specs.Library.{showNumber, showLeft, reportNumber, reportLeft, followNumber, followHistory, followSteps};
 ghost use Rattle.tureenlark.specs.Library.{leastScheduleNumber, leastScheduleLeft, screenNumber, answerTextNumber, answerTextLeft};
+
+// How many bytes an instruction has, eight steps, and a schedule.
+const INSTRUCTION: usize = 3;
+
+const STEPS: usize = 32;
+
+const SCHEDULE: usize = 8;
 
 // 1 where the record is a well-formed plan; or refused with 2, 3, 4.
 #[no_mangle]
@@ -110,7 +116,7 @@ pub extern "C" fn tureenlark_show(
     if history.len() < history::LENGTH {
         return numbers::refused(Refusal::Buffer);
     }
-    if instruction.len() < steps::INSTRUCTION {
+    if instruction.len() < INSTRUCTION {
         return numbers::refused(Refusal::Buffer);
     }
     let shown = run::show(
@@ -161,7 +167,7 @@ pub extern "C" fn tureenlark_follow(
     if history.len() < history::LENGTH {
         return numbers::refused(Refusal::Buffer);
     }
-    if steps.len() < steps::STEPS {
+    if steps.len() < STEPS {
         return numbers::refused(Refusal::Buffer);
     }
     let given = history::history_in(history);
@@ -180,7 +186,7 @@ pub extern "C" fn tureenlark_least_schedule(plan: &[u8], values: u8, schedule: &
     if plan.len() < plan_record::LENGTH {
         return numbers::refused(Refusal::Buffer);
     }
-    if schedule.len() < steps::SCHEDULE {
+    if schedule.len() < SCHEDULE {
         return numbers::refused(Refusal::Buffer);
     }
     let verdict = verdict::least_schedule(plan_record::plan_in(plan), values);

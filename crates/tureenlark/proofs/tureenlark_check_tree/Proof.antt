@@ -2,7 +2,7 @@
 use denote.Ref.{now}
 use mathlib.Core.Path.{_∙_, ap}
 use Prim.Native.Nat.{ℕ}
-use Rattle.tureenlark.specs.Numbers.{numbered}
+use Rattle.answers.specs.Numbers.{numbered}
 use Rattle.plan.specs.declared.Plan.{Plan}
 use Rattle.records.specs.Records.{planIn}
 use Rattle.checker.specs.Checker.{checkFault}

@@ -2,7 +2,7 @@
 use denote.Ref.{now}
 use mathlib.Core.Path.{_∙_, ap}
 use Prim.Native.Nat.{ℕ}
-use Rattle.tureenlark.specs.Numbers.{numbered}
+use Rattle.answers.specs.Numbers.{numbered}
 use Rattle.records.specs.Records.{planIn}
 use Rattle.judge.specs.Judge.{planFault}
 use Rattle.tureenlark.specs.Library.{planShort}

@@ -9,7 +9,7 @@ use Rattle.plan.specs.declared.Plan.{Plan}
 use Rattle.plan.specs.Answer.{Answer, putAt}
 use Rattle.verdict.specs.Verdict.{Fixed, leastSchedule, verdictAnswer}
 use Rattle.records.specs.Records.{planIn}
-use Rattle.tureenlark.specs.Numbers.{fixedNumber}
+use Rattle.answers.specs.Numbers.{fixedNumber}
 use Rattle.tureenlark.specs.Library.{planShort, shortFault, scheduleShort}
 use Rattle.tureenlark.proofs.LibraryLaws.{short, long, first-short, then-short, number-short, number-long, filled-short, put-long, said-slots}
 use borrow.Author.Needs.{needs}

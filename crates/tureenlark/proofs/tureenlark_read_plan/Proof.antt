@@ -2,7 +2,7 @@
 use denote.Ref.{now}
 use mathlib.Core.Path.{_∙_, ap}
 use native.Mathlib.Omega.{arith}
-use Rattle.tureenlark.specs.Numbers.{numbered}
+use Rattle.answers.specs.Numbers.{numbered}
 use lib.ListN.{length}
 use Prim.Native.Nat.{_≤_}
 use Rattle.plan.specs.declared.Plan.{Plan}

@@ -3,7 +3,7 @@ use denote.Ref.{now}
 use mathlib.Core.Path.{_∙_, ap}
 use Rattle.records.specs.Records.{planIn}
 use Rattle.network.specs.Mask.{digit}
-use Rattle.tureenlark.specs.Numbers.{testNumber}
+use Rattle.answers.specs.Numbers.{testNumber}
 use Rattle.verdict.specs.Verdict.{screened}
 use Rattle.tureenlark.specs.Library.{planShort}
 use Rattle.tureenlark.proofs.LibraryLaws.{short, long, number-short, number-long}

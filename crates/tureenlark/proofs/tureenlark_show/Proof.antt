@@ -4,8 +4,9 @@ use mathlib.Core.Path.{_≡_, _∙_, ap}
 use native.Mathlib.Omega.{arith}
 use Rattle.plan.specs.Answer.{putAt}
 use Rattle.run.specs.Run.{Told, shownTold}
-use Rattle.tureenlark.specs.Numbers.{toldNumber}
-use Rattle.tureenlark.specs.Library.{planShort, historyShort, shortFault, showShort, toldAt, toldBytes}
+use Rattle.answers.specs.Numbers.{toldNumber}
+use Rattle.answers.specs.Steps.{toldBytes}
+use Rattle.tureenlark.specs.Library.{planShort, historyShort, shortFault, showShort, toldAt}
 use Rattle.tureenlark.proofs.LibraryLaws.{short, long, first-short, then-short, told-short, told-long, filled-short, put-long, few-bytes}
 use borrow.Author.Needs.{needs}
 use Rattle.tureenlark.proofs.tureenlark_show.Statement.{statement}

@@ -1,6 +1,6 @@
 -- What the call says, as a number. Only the checker need believe this file.
 use mathlib.Core.Path.{_∙_, ap}
-use Rattle.tureenlark.specs.Numbers.{answerNumber}
+use Rattle.answers.specs.Numbers.{answerNumber}
 use borrow.Author.Needs.{needs}
 use Rattle.tureenlark.proofs.tureenlark_write_tree.Statement.{statement}
 use Rattle.tureenlark.proofs.tureenlark_write_tree.Tie as tie

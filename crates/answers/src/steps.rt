@@ -11,14 +11,7 @@ ghost use Rattle.network.specs.Mask.{joinBelow};
 ghost use Rattle.plan.specs.Answer.{putAt};
 ghost use Rattle.run.specs.Run.{shownTold};
 ghost use Rattle.following.specs.Following.{zeroStep};
-ghost use Rattle.tureenlark.specs.Library.{toldBytes, stepBytes};
-
-// How many bytes an instruction has, eight steps, and a schedule.
-pub const INSTRUCTION: usize = 3;
-
-pub const STEPS: usize = 32;
-
-pub const SCHEDULE: usize = 8;
+ghost use Rattle.answers.specs.Steps.{toldBytes, stepBytes};
 
 // The instruction at the front of the buffer. Where there is none, or no room for it, nothing changes.
 pub fn put_told(out: &mut [u8], told: Shown)

@@ -9,9 +9,9 @@ use lib.Seq.{sets}
 use Rattle.network.specs.Mask.{joinBelow}
 use Rattle.frame.proofs.WritingLaws.{join-next}
 use Rattle.following.specs.Following.{zeroStep}
-use Rattle.tureenlark.specs.Library.{stepBytes}
-use Rattle.tureenlark.proofs.steps.put_steps.Statement.{statement}
-use Rattle.tureenlark.proofs.steps.put_steps.Tie as tie
+use Rattle.answers.specs.Steps.{stepBytes}
+use Rattle.answers.proofs.steps.put_steps.Statement.{statement}
+use Rattle.answers.proofs.steps.put_steps.Tie as tie
 
 abbrev Inv-loop : tie.InvT-loop
 Inv-loop out₀ steps at₀ i₀ out at i =

@@ -1,9 +1,9 @@
 -- What each case says. Only the checker need believe this file.
 use mathlib.Core.Path.{_∙_}
-use Rattle.tureenlark.proofs.NumberLaws.{searched-nodes, searched-refused}
+use Rattle.answers.proofs.NumberLaws.{searched-nodes, searched-refused}
 use borrow.Author.Needs.{needs}
-use Rattle.tureenlark.proofs.numbers.searched.Statement.{statement}
-use Rattle.tureenlark.proofs.numbers.searched.Tie as tie
+use Rattle.answers.proofs.numbers.searched.Statement.{statement}
+use Rattle.answers.proofs.numbers.searched.Tie as tie
 
 enum-known-answer : tie.Need-enum-known-answer
 enum-known-answer c = search needs

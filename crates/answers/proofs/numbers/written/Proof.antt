@@ -1,9 +1,9 @@
 -- What each case says. Only the checker need believe this file.
 use mathlib.Core.Path.{_∙_}
-use Rattle.tureenlark.proofs.NumberLaws.{written-length, written-refused}
+use Rattle.answers.proofs.NumberLaws.{written-length, written-refused}
 use borrow.Author.Needs.{needs}
-use Rattle.tureenlark.proofs.numbers.written.Statement.{statement}
-use Rattle.tureenlark.proofs.numbers.written.Tie as tie
+use Rattle.answers.proofs.numbers.written.Statement.{statement}
+use Rattle.answers.proofs.numbers.written.Tie as tie
 
 enum-known-answer : tie.Need-enum-known-answer
 enum-known-answer c = search needs

@@ -14,7 +14,7 @@ ghost use Rattle.tree_text.specs.TreeText.{treeReadAnswer};
 ghost use Rattle.search.specs.Search.{searchedAnswer};
 ghost use Rattle.run.specs.Run.{shownTold};
 ghost use Rattle.verdict.specs.Verdict.{saying, screenAnswer};
-ghost use Rattle.tureenlark.specs.Numbers.{faultNumber, numbered, answerNumber, toldNumber, fixedNumber, testNumber};
+ghost use Rattle.answers.specs.Numbers.{faultNumber, numbered, answerNumber, toldNumber, fixedNumber, testNumber};
 
 pub fn refused(r: Refusal) -> usize
     ensures { λ n. ⌜ n ≡ faultNumber (refusalNumber r) ⌝ }

@@ -1,9 +1,9 @@
 -- What each case says. Only the checker need believe this file.
 use mathlib.Core.Path.{_∙_}
-use Rattle.tureenlark.proofs.NumberLaws.{screen-passed, screen-failed, screen-refused}
+use Rattle.answers.proofs.NumberLaws.{screen-passed, screen-failed, screen-refused}
 use borrow.Author.Needs.{needs}
-use Rattle.tureenlark.proofs.numbers.screened.Statement.{statement}
-use Rattle.tureenlark.proofs.numbers.screened.Tie as tie
+use Rattle.answers.proofs.numbers.screened.Statement.{statement}
+use Rattle.answers.proofs.numbers.screened.Tie as tie
 
 enum-told : tie.Need-enum-told
 enum-told c = search needs

@@ -4,8 +4,8 @@ use Prim.Native.Nat.{_+_}
 use borrow.Author.Tests.{le-leb}
 use lib.ListN.{length}
 use borrow.Author.Needs.{needs}
-use Rattle.tureenlark.proofs.steps.put_step.Statement.{statement}
-use Rattle.tureenlark.proofs.steps.put_step.Tie as tie
+use Rattle.answers.proofs.steps.put_step.Statement.{statement}
+use Rattle.answers.proofs.steps.put_step.Tie as tie
 
 slice-aggregate-put-bytes : tie.Need-slice-aggregate-put-bytes
 slice-aggregate-put-bytes c = search needs

@@ -4,11 +4,11 @@ use mathlib.Core.Path.{sym, ap, _∙_}
 use Rattle.plan.specs.Answer.{putAt}
 use Rattle.run.specs.declared.Shown.{Shown}
 use Rattle.run.specs.Run.{shownTold}
-use Rattle.tureenlark.specs.Library.{toldBytes}
-use Rattle.tureenlark.proofs.LibraryLaws.{nothing-put}
+use Rattle.answers.specs.Steps.{toldBytes}
+use Rattle.answers.proofs.StepLaws.{nothing-put}
 use borrow.Author.Needs.{needs}
-use Rattle.tureenlark.proofs.steps.put_told.Statement.{statement}
-use Rattle.tureenlark.proofs.steps.put_told.Tie as tie
+use Rattle.answers.proofs.steps.put_told.Statement.{statement}
+use Rattle.answers.proofs.steps.put_told.Tie as tie
 
 enum-known-told : tie.Need-enum-known-told
 enum-known-told c = search needs

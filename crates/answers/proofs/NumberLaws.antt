@@ -24,7 +24,7 @@ use Rattle.verdict.specs.declared.Found.the-variants as found
 use Rattle.verdict.specs.declared.screen.Screened.{Screened}
 use Rattle.verdict.specs.declared.screen.Screened.the-variants as screen
 use Rattle.verdict.specs.Verdict.{saying, screenAnswer}
-use Rattle.tureenlark.specs.Numbers.{faultNumber, numbered, answerNumber, toldNumber, fixedNumber, testNumber}
+use Rattle.answers.specs.Numbers.{faultNumber, numbered, answerNumber, toldNumber, fixedNumber, testNumber}
 
 -- a refusal's number, whatever stands beside it
 pub refused-is : (r : Refusal) (v : ℕ) → faultNumber (refusalNumber r) ≡ numbered (refusalNumber r) v

@@ -1,0 +1,3 @@
+-- Laws: the modules of this folder. Only the checker need believe them.
+pub mod NumberLaws
+pub mod StepLaws

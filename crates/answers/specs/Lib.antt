@@ -1,0 +1,3 @@
+-- Definitions: the modules of this folder, in the order in which they are read. A reader must believe them.
+pub mod Numbers
+pub mod Steps
