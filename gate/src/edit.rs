@@ -1,6 +1,7 @@
 //! The file of a wrong program, in the language of `rt must-fail`: `file:`, `old:` and `new:` lines, each pair one
 //! replacement. Lines that rt passes over and that are read here: `fact:` and `claim:`, what refuses it (`Reason`); `why:`,
-//! why a claim is false; and `call: NAME`, the public call of which this is a wrong answer.
+//! why a claim is false; and `call: NAME`, the public call of which this is a wrong answer. `impostor:` and `mistake:`,
+//! for document 01's, are read by tests/edits.
 
 /// One text of one file, and what stands in its place.
 #[derive(Clone, Debug, PartialEq)]
