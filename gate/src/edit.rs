@@ -40,25 +40,31 @@ impl Edit {
         let mut edit = Edit::default();
         let (mut file, mut old, mut explained) = (String::new(), None, false);
         for line in text.lines() {
-            if let Some(f) = line.strip_prefix("file: ") {
-                file = f.to_string();
-            } else if let Some(o) = line.strip_prefix("old: ") {
-                old = Some(o.to_string());
-            } else if let Some(n) = line.strip_prefix("new:") {
-                let new = n.strip_prefix(' ').unwrap_or(n).to_string();
-                let old = old.take().ok_or("a 'new:' line without an 'old:' line before it")?;
-                edit.replacements.push(Replacement { file: file.clone(), old, new });
-            } else if let Some(name) = line.strip_prefix("fact: fn ") {
-                edit.reasons.push(Reason::Function(name.to_string()));
-            } else if let Some(name) = line.strip_prefix("fact: ") {
-                edit.reasons.push(Reason::Fact(name.to_string()));
-            } else if let Some(name) = line.strip_prefix("claim: ") {
-                edit.reasons.push(Reason::Claim(name.to_string()));
-            } else if line.starts_with("why: ") {
-                explained = true;
-            } else if let Some(name) = line.strip_prefix("call: ") {
-                edit.calls.push(name.to_string());
+            let (key, rest) = line.split_once(':').ok_or_else(|| format!("a line that says nothing: {line}"))?;
+            let value = rest.strip_prefix(' ').unwrap_or(rest).to_string();
+            if value.is_empty() && key != "new" {
+                return Err(format!("nothing stands behind '{key}:'"));
             }
+            match key {
+                "file" => file = value,
+                "old" if old.is_none() => old = Some(value),
+                "new" => {
+                    let old = old.take().ok_or("a 'new:' line without an 'old:' line before it")?;
+                    edit.replacements.push(Replacement { file: file.clone(), old, new: value });
+                }
+                "fact" => edit.reasons.push(match value.strip_prefix("fn ") {
+                    Some(name) => Reason::Function(name.to_string()),
+                    None => Reason::Fact(value),
+                }),
+                "claim" => edit.reasons.push(Reason::Claim(value)),
+                "why" => explained = true,
+                "call" => edit.calls.push(value),
+                "impostor" | "mistake" => {}
+                _ => return Err(format!("'{key}:' is no key here")),
+            }
+        }
+        if old.is_some() {
+            return Err("an 'old:' line without a 'new:' line behind it".to_string());
         }
         if edit.replacements.is_empty() {
             return Err("it has no 'old:' and 'new:' pair".to_string());

@@ -11,7 +11,7 @@ pub struct Error {
 /// Why an error was given.
 #[derive(Clone, Copy, Debug, PartialEq)]
 pub enum Kind {
-    /// false: an inequality that what is known does not give, or two values that were computed and differ
+    /// an inequality that does not follow from what is known, or two sides that do not compute to the same
     Fact,
     /// the statement asked for is not the one that is proved
     Differ,
@@ -43,8 +43,12 @@ impl Error {
     /// Whether it says that a loop's measure does not fall: the need is called loop-less, with a number behind it from
     /// the second loop on. With another measure the loop might end all the same.
     pub fn of_a_measure(&self) -> bool {
-        self.declaration.trim_end_matches(|c: char| c.is_ascii_digit() || c == '-').ends_with("loop-less")
+        is_measure(&self.declaration)
     }
+}
+
+fn is_measure(need: &str) -> bool {
+    need.trim_end_matches(|c: char| c.is_ascii_digit() || c == '-').ends_with("loop-less")
 }
 
 /// The prover's words for an inequality that fails.
@@ -146,8 +150,8 @@ pub enum File {
 pub enum Said {
     Proved,
     NotProved,
-    /// the toolchain makes its proof by itself, and could not prove these needs
-    NotClosed(String),
+    /// the toolchain makes its proof by itself, and could not prove these needs; measures of loops are left out
+    NotClosed(Vec<String>),
 }
 
 impl Function {
@@ -184,7 +188,8 @@ impl Function {
                 continue;
             }
             if let Some((_, needs)) = said.split_once("`search` does not close ") {
-                return Said::NotClosed(needs.to_string());
+                let names = needs.split('`').skip(1).step_by(2).take_while(|n| !n.contains("::"));
+                return Said::NotClosed(names.filter(|n| !is_measure(n)).map(|n| format!("`{n}`")).collect());
             }
             if said.starts_with("not proved") || said.starts_with("no proof") {
                 return Said::NotProved;

@@ -57,6 +57,9 @@ fn try_programs(words: &[String]) -> Result<usize, String> {
         return Err(format!("{o} is no option"));
     }
     let found = named(&root, &names)?;
+    if found.is_empty() {
+        return Err("there is no wrong program".to_string());
+    }
     let crates = crates(&root)?;
     let concerned: Vec<String> = crates.iter().filter(|c| found.iter().any(|p| p.krate == **c)).cloned().collect();
     let check = Command::new("rt").arg("check").args(&concerned).output().map_err(|e| format!("rt: {e}"))?;

@@ -55,7 +55,10 @@ pub fn programs(root: &Path, krate: &str, folder: Folder) -> Result<Vec<Program>
     let mut files: Vec<PathBuf> = entries.filter_map(|e| e.ok()).map(|e| e.path()).collect();
     files.sort();
     let mut found = Vec::new();
-    for file in files.into_iter().filter(|f| f.extension().is_some_and(|x| x == "edit")) {
+    for file in files {
+        if file.extension().is_none_or(|x| x != "edit") {
+            return Err(format!("{} is no .edit file", file.display()));
+        }
         let label = file.file_stem().map(|s| s.to_string_lossy().into_owned()).unwrap_or_default();
         let said = |e: String| format!("{krate}/{label}: {e}");
         let source = |f: &str| read(&place.join(f));

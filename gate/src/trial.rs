@@ -100,10 +100,15 @@ impl Trials<'_> {
         Ok(place)
     }
 
+    /// What the prover says, where it came to an end: status 0 is proved and 1 is refused.
     fn check(&self, place: &Path, krate: &str) -> Result<String, String> {
         let run = Command::new("rt").args(["dev", krate]).current_dir(place).stdin(Stdio::null()).output();
         let output = run.map_err(|e| format!("rt: {e}"))?;
-        Ok(String::from_utf8_lossy(&output.stdout).into_owned() + &String::from_utf8_lossy(&output.stderr))
+        let log = String::from_utf8_lossy(&output.stdout).into_owned() + &String::from_utf8_lossy(&output.stderr);
+        match output.status.code() {
+            Some(0 | 1) => Ok(log),
+            status => Err(format!("rt ended with status {status:?}:\n{log}")),
+        }
     }
 }
 

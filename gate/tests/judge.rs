@@ -62,6 +62,9 @@ fn an_inequality_that_fails_counts() {
 
 #[test]
 fn a_proof_that_the_toolchain_makes_counts_by_its_need() {
+    let measure =
+        "fn one::lesser: no proof: expected `lesser-spec` in /x/Proof.antt; `search` does not close `loop-less`";
+    refused(body(), &log(&[measure]), "only a measure");
     let line = "fn one::lesser: no proof: expected `lesser-spec` in /x/Proof.antt; `search` does not close `returns`";
     assert_eq!(says(body(), &log(&[line])), Ok("`returns` of `lesser`".to_string()));
 }
@@ -194,4 +197,23 @@ fn an_edit_that_cannot_be_applied_is_an_error() {
     }
     assert!(Edit::read("file: proofs/Laws.antt\nold: a\nnew: b\n").is_err());
     assert!(Edit::read("file: src/lib.rt\n").is_err());
+    let pair = "file: src/lib.rt\nold: a\nnew: b\n";
+    assert!(Edit::read(pair).is_ok());
+    for slip in ["Fact: one-least\n", "why: \n", "old: c\n", "one-least\n"] {
+        assert!(Edit::read(&format!("{pair}{slip}")).is_err(), "{slip}");
+        assert!(Edit::read(&format!("{slip}{pair}")).is_err(), "{slip}");
+    }
+}
+
+#[test]
+fn functions_are_judged_by_their_own_proofs_alone() {
+    let named = edit("fact: fn lesser\nfile: src/lib.rt\nold: if a <= b {\nnew: if b <= a {\n");
+    refused(named, &log(&[DIFFER, "fn one::lesser: not proved"]), "changes functions alone");
+}
+
+#[test]
+fn a_law_is_no_case() {
+    let named = edit("fact: one-least\nfile: specs/Least.antt\nold: least = 1\nnew: least = 2\n");
+    let law = "/x/proofs/Laws.antt:9:5: error: `one-least`: `omega`: the goal does not follow from what it read";
+    refused(named, &log(&[law]), "is no case");
 }

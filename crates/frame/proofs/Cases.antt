@@ -4,8 +4,10 @@ use mathlib.Core.List.{[], _∷_}
 use mathlib.Core.Bool.{true, false}
 use Rattle.network.specs.Mask.{allBelow}
 use Rattle.plan.specs.declared.Refusal.the-variants as refusal
+use Rattle.plan.specs.Answer.{first, unless}
 use Rattle.frame.specs.Hex.{digitOf, pairOf, hexDigit}
 use Rattle.frame.specs.Frame.{frameText, refusalText, byteAt, valueAt, whole}
+use Rattle.frame.specs.Texts.{frameFault}
 use Rattle.frame.specs.Characters.{characters}
 
 pub written : (frameText (1 ∷ 35 ∷ 175 ∷ []) ≡ characters "0123AF\n") × (frameText (254 ∷ []) ≡ characters "FE\n")
@@ -37,3 +39,10 @@ pub not-whole :
     × (whole 1 3 (characters "0123AG\n") ≡ false)
 unfolding whole byteAt pairOf digitOf allBelow
 not-whole = (refl, refl, refl, refl, refl, refl, refl, refl, refl, refl, refl, refl, refl, refl)
+
+-- a frame that is not whole gets the text's number, whatever its values are; a whole one that of its values, or none
+pub faults :
+    (frameFault refusal.PlanText false refusal.Head false ≡ 1) × (frameFault refusal.PlanText false refusal.Head true ≡ 1)
+    × (frameFault refusal.PlanText true refusal.Head false ≡ 2) × (frameFault refusal.PlanText true refusal.Head true ≡ 0)
+unfolding frameFault first unless
+faults = (refl, refl, refl, refl)
