@@ -6,8 +6,8 @@ use crate::log::{errors, Error, File, Function, Kind, Said};
 /// What refused the wrong program, in a few words; or why its refusal shows nothing.
 ///
 /// - An edit of functions alone: each of them is not proved, and the first error in its own proof is a fact that fails:
-///   what the code does is not what its contract says (loops' measures are passed over: they belong to the proof). Where the toolchain makes the proof by itself, it says which
-///   need it could not prove.
+///   what the code does is not what its contract says. Loops' measures are passed over: they belong to the proof. Where
+///   the toolchain makes the proof by itself, it says which need it could not prove.
 /// - Any other edit names what refuses it. `fact: NAME` is a case (a statement without variables, in a file of cases)
 ///   that computes otherwise with the edit. `fact: fn NAME` is a function that does not do what the wrong definition
 ///   says. `claim: NAME` is a law or theorem that is false with the edit; that it is, and not only proved otherwise, no
