@@ -29,7 +29,7 @@ use Rattle.run.proofs.ReportLaws.{may-is}
 use Rattle.run.proofs.ToldLaws.{done-is-not}
 use Rattle.run.proofs.ReportsLaws.{history-fine, holds-reports, longer-is}
 use Rattle.run.proofs.RunTheorems.{shows-fine}
-use Rattle.following.specs.Calls.{planner, Call, showing, reporting, Progress, begun, stepsOf, afterCall, afterCalls}
+use Rattle.following.specs.Calls.{theRun, Call, showing, reporting, Progress, begun, stepsOf, afterCall, afterCalls}
 
 abbrev pub stepOf : Move → ℕ → Step
 stepOf m o = record { instruction = m; report = o }
@@ -112,7 +112,7 @@ module _ (p : Plan) (wf : WellFormed p) where
       h = historyOf (reportsOf log)
 
       abbrev left : Progress
-      left = afterCall planner p bs (progressOf log) (reporting o)
+      left = afterCall theRun p bs (progressOf log) (reporting o)
 
       -- a refused report changes nothing
       refused : (x : Told) (n : ℕ) → showAnswer p bs h ≡ x → reportFault p x o ≡ suc n → stepsOf x o (suc n) ≡ [] → left ≡ progressOf log
@@ -149,20 +149,20 @@ module _ (p : Plan) (wf : WellFormed p) where
           (λ z. record { log = log; follows = fo; is = refused (instruct m) 7 e (rw z) refl }))
           (stands t log fo)
 
-    one-call : (log : List Step) → Follows net t log → (call : Call) → LeadsDown (afterCall planner p bs (progressOf log) call)
+    one-call : (log : List Step) → Follows net t log → (call : Call) → LeadsDown (afterCall theRun p bs (progressOf log) call)
     unfolding afterCall
     one-call log fo showing = record { log = log; follows = fo; is = refl }
     one-call log fo (reporting o) = one-report log fo o
 
     -- .. and so does a list of calls
-    pub all-calls : (calls : List Call) (log : List Step) → Follows net t log → LeadsDown (afterCalls planner p bs (progressOf log) calls)
+    pub all-calls : (calls : List Call) (log : List Step) → Follows net t log → LeadsDown (afterCalls theRun p bs (progressOf log) calls)
     unfolding afterCalls
     all-calls [] log fo = record { log = log; follows = fo; is = refl }
     all-calls (call ∷ calls) log fo =
         let one = one-call log fo call in
-        subst (λ (r : Progress). LeadsDown (afterCalls planner p bs r calls)) (sym (one .is)) (all-calls calls (one .log) (one .follows))
+        subst (λ (r : Progress). LeadsDown (afterCalls theRun p bs r calls)) (sym (one .is)) (all-calls calls (one .log) (one .follows))
 
     -- from the empty history on
-    pub from-empty : (calls : List Call) → LeadsDown (afterCalls planner p bs (begun emptyHistory) calls)
+    pub from-empty : (calls : List Call) → LeadsDown (afterCalls theRun p bs (begun emptyHistory) calls)
     unfolding Follows
     from-empty calls = all-calls calls [] tt

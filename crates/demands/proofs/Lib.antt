@@ -3,10 +3,8 @@
 pub mod Demand1Laws
 pub mod Demand1Theorem
 pub mod Demand2Theorem
+pub mod ListLaws
+pub mod MadeLaws
 pub mod CallLaws
 pub mod EveryListLaws
 pub mod Demand3Theorem
-pub mod Corollaries
-pub mod CodeTheorems
-pub mod Cases
-pub mod Impostors

@@ -1,4 +1,7 @@
--- Definitions: the modules of this folder. A reader must believe them.
+-- Definitions: the modules of this folder, in the order in which they are read. A reader must believe them.
+pub mod Planner
+pub mod ThisPlanner
 pub mod Demand1
 pub mod Demand2
+pub mod Crews
 pub mod Demand3

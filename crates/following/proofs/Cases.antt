@@ -11,7 +11,7 @@ use Rattle.checker.proofs.Cases.{k4-tree}
 use Rattle.run.specs.History.{historyOf, emptyHistory}
 use Rattle.run.specs.Run.{instruct, complete, refuse}
 use Rattle.run.proofs.Cases.{running, move}
-use Rattle.following.specs.Calls.{planner, Call, showing, reporting, Progress, begun, stepsOf, afterCall, afterCalls}
+use Rattle.following.specs.Calls.{theRun, Call, showing, reporting, Progress, begun, stepsOf, afterCall, afterCalls}
 use Rattle.following.specs.Following.{callsIn, followedRecord}
 
 -- To unfold this is to unfold all that a list of calls over a tree computes.
@@ -25,13 +25,13 @@ step m o = record { instruction = m; report = o }
 -- ---- one call
 
 -- a showing leaves the crew where it is, whatever its history
-pub showing-leaves : (r : Progress) → afterCall planner k4 k4-tree r showing ≡ r
+pub showing-leaves : (r : Progress) → afterCall theRun k4 k4-tree r showing ≡ r
 unfolding afterCall
 showing-leaves r = refl
 
 -- how far a crew has come after these calls
 abbrev pub come : List Call → Progress
-come calls = afterCalls planner k4 k4-tree (begun emptyHistory) calls
+come calls = afterCalls theRun k4 k4-tree (begun emptyHistory) calls
 
 -- an accepted report leaves the longer history and is a step; a refused one leaves the history and is none
 pub one-call :
@@ -62,7 +62,7 @@ unfolding calling
 k14 = refl
 
 -- Once done, a report leaves everything, whatever its mask.
-pub k14-done : (o : ℕ) → afterCall planner k4 k4-tree (come k14-calls) (reporting o) ≡ come k14-calls
+pub k14-done : (o : ℕ) → afterCall theRun k4 k4-tree (come k14-calls) (reporting o) ≡ come k14-calls
 unfolding calling
 k14-done o = refl
 
@@ -92,7 +92,7 @@ k14-recorded = refl
 
 -- begun at a history of one report: two reports in the end, and one step followed
 pub begun-later :
-    followedRecord (afterCalls planner k4 k4-tree (begun (historyOf (1 ∷ []))) (callsIn (1 ∷ 1 ∷ 1 ∷ 0 ∷ [])))
+    followedRecord (afterCalls theRun k4 k4-tree (begun (historyOf (1 ∷ []))) (callsIn (1 ∷ 1 ∷ 1 ∷ 0 ∷ [])))
     ≡ record {
       history = historyOf (1 ∷ 0 ∷ []);
       count = 1;
@@ -105,7 +105,7 @@ begun-later = refl
 
 -- at a malformed history every call is refused, and leaves it
 pub malformed-stays :
-    afterCalls planner k4 k4-tree (begun (record { count = 9; masks = replicate 8 0 })) (showing ∷ reporting 0 ∷ reporting 1 ∷ [])
+    afterCalls theRun k4 k4-tree (begun (record { count = 9; masks = replicate 8 0 })) (showing ∷ reporting 0 ∷ reporting 1 ∷ [])
     ≡ begun (record { count = 9; masks = replicate 8 0 })
 unfolding calling
 malformed-stays = refl

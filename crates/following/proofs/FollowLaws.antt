@@ -15,7 +15,7 @@ use Rattle.run.specs.declared.History.{History}
 use Rattle.run.specs.Run.{Told, instruct, complete, refuse, instructed, showAnswer, reportAnswer}
 use Rattle.run.proofs.RunTheorems.{accepted-longer, refused-same}
 use Rattle.following.specs.declared.Followed.{Followed}
-use Rattle.following.specs.Calls.{planner, Call, showing, reporting, Progress, begun, stepsOf, afterCall, afterCalls}
+use Rattle.following.specs.Calls.{theRun, Call, showing, reporting, Progress, begun, stepsOf, afterCall, afterCalls}
 use Rattle.following.specs.Following.{callOf, callsIn, zeroStep, stepRecord, followedRecord, oneStepMore, AfterCall}
 
 -- ---- calls as bytes
@@ -90,7 +90,7 @@ record-more h log st lt =
 -- a showing leaves everything
 pub shown-leaves : (p : Plan) (tree : List ℕ) (f : Followed) (kind o : ℕ) → kind ≡ 0 → AfterCall p tree f kind o f
 unfolding afterCall
-shown-leaves p tree f kind o e s is = is ∙ ap followedRecord (sym (ap (afterCall planner p tree s) (call-shows kind o e)))
+shown-leaves p tree f kind o e s is = is ∙ ap followedRecord (sym (ap (afterCall theRun p tree s) (call-shows kind o e)))
 
 -- A report: what was told before it and what it answered, by the definitions.
 pub record AtReport (p : Plan) (tree : List ℕ) (f : Followed) (kind o : ℕ) (told : Told) (answer : Answer History) : Type 0 where
@@ -108,7 +108,7 @@ module _
     history-is = ap (λ (x : Followed). x .history) is
 
     left-is :
-        afterCall planner p tree s (reporting o)
+        afterCall theRun p tree s (reporting o)
         ≡ record { history = answer .value; steps = s .steps ++ stepsOf told o (answer .fault) }
     unfolding afterCall
     left-is =
@@ -125,9 +125,9 @@ module _
     -- .. where it follows these steps
     left-with :
         (more : List crew.Step) → stepsOf told o (answer .fault) ≡ more →
-        afterCall planner p tree s (callOf kind o) ≡ record { history = answer .value; steps = s .steps ++ more }
+        afterCall theRun p tree s (callOf kind o) ≡ record { history = answer .value; steps = s .steps ++ more }
     left-with more e =
-        ap (afterCall planner p tree s) (call-reports kind o (r .reports))
+        ap (afterCall theRun p tree s) (call-reports kind o (r .reports))
         ∙ left-is
         ∙ ap (λ (l : List crew.Step). record { history = answer .value; steps = s .steps ++ l }) e
 
@@ -159,7 +159,7 @@ pub record Stands (p : Plan) (tree : List ℕ) (whole : Progress) (f : Followed)
   pub progress : Progress
   pub is : f ≡ followedRecord progress
   pub within : length (progress .steps) ≤ progress .history .count
-  pub leads : afterCalls planner p tree progress (callsIn bytes) ≡ whole
+  pub leads : afterCalls theRun p tree progress (callsIn bytes) ≡ whole
 
 -- a report follows one step at most, and only where it is accepted
 one-at-most : (t : Told) (o fault : ℕ) → length (stepsOf t o fault) ≤ 1
@@ -171,7 +171,7 @@ one-at-most (refuse n) o fault = omega arith
 
 call-within :
     (p : Plan) (tree : List ℕ) (s : Progress) (call : Call) → length (s .steps) ≤ s .history .count →
-    length (afterCall planner p tree s call .steps) ≤ afterCall planner p tree s call .history .count
+    length (afterCall theRun p tree s call .steps) ≤ afterCall theRun p tree s call .history .count
 unfolding afterCall
 call-within p tree s showing le = le
 call-within p tree s (reporting o) le =
@@ -195,7 +195,7 @@ history-begun h f e = ap (λ (x : Followed). x .history) e
 
 pub stand-begins :
     (p : Plan) (tree : List ℕ) (h : History) (f : Followed) (bytes : List ℕ) → f ≡ followedRecord (begun h) →
-    Stands p tree (afterCalls planner p tree (begun (f .history)) (callsIn bytes)) f bytes
+    Stands p tree (afterCalls theRun p tree (begun (f .history)) (callsIn bytes)) f bytes
 stand-begins p tree h f bytes e =
     record {
       progress = begun (f .history);
@@ -217,7 +217,7 @@ module _ (p : Plan) (tree : List ℕ) (whole : Progress) (f : Followed) (bytes :
   -- no call is left
   pub stand-ends : length bytes < 2 → f ≡ followedRecord whole
   unfolding afterCalls
-  stand-ends lt = w .is ∙ ap followedRecord (sym (ap (afterCalls planner p tree (w .progress)) (calls-none bytes lt)) ∙ w .leads)
+  stand-ends lt = w .is ∙ ap followedRecord (sym (ap (afterCalls theRun p tree (w .progress)) (calls-none bytes lt)) ∙ w .leads)
 
   -- one call more
   pub stand-on :
@@ -229,8 +229,8 @@ module _ (p : Plan) (tree : List ℕ) (whole : Progress) (f : Followed) (bytes :
       let next : callsIn bytes ≡ call ∷ callsIn (part 2 bytes)
       = calls-next bytes le ∙ rw (← e, ← q, rest-is 2 bytes) in
       record {
-        progress = afterCall planner p tree (w .progress) call;
+        progress = afterCall theRun p tree (w .progress) call;
         is = after (w .progress) (w .is);
         within = call-within p tree (w .progress) call (w .within);
-        leads = ap (afterCalls planner p tree (w .progress)) (sym next) ∙ w .leads;
+        leads = ap (afterCalls theRun p tree (w .progress)) (sym next) ∙ w .leads;
       }

@@ -7,7 +7,7 @@ use lib.ListN.{length}
 use Rattle.plan.specs.declared.Plan.{Plan}
 use Rattle.run.specs.declared.History.{History}
 use Rattle.following.specs.declared.Followed.{Followed}
-use Rattle.following.specs.Calls.{planner, Call, showing, reporting, begun, afterCalls}
+use Rattle.following.specs.Calls.{theRun, Call, showing, reporting, begun, afterCalls}
 use Rattle.following.specs.Following.{callsIn, followedRecord}
 
 -- the bytes of a list of calls
@@ -25,11 +25,11 @@ reads-back (reporting o ∷ calls) = ap (λ (l : List Call). reporting o ∷ l) 
 -- What `follow` hands back for them: the history that those calls leave, and how many steps they follow.
 module _
     (p : Plan) (tree : List ℕ) (h : History) (calls : List Call) (r : Followed)
-    (promised : r ≡ followedRecord (afterCalls planner p tree (begun h) (callsIn (bytesOf calls)))) where
-  pub history-left : r .history ≡ afterCalls planner p tree (begun h) calls .history
+    (promised : r ≡ followedRecord (afterCalls theRun p tree (begun h) (callsIn (bytesOf calls)))) where
+  pub history-left : r .history ≡ afterCalls theRun p tree (begun h) calls .history
   unfolding followedRecord
   history-left = rw (promised, reads-back calls)
 
-  pub steps-counted : r .count ≡ length (afterCalls planner p tree (begun h) calls .steps)
+  pub steps-counted : r .count ≡ length (afterCalls theRun p tree (begun h) calls .steps)
   unfolding followedRecord
   steps-counted = rw (promised, reads-back calls)

@@ -1,24 +1,20 @@
--- Definitions: the three calls together, and a crew's list of calls over one plan and tree (document 01, "The crew's run"). A reader must
--- believe this file.
+-- Definitions: a crew's list of calls over one plan and tree (document 01, "The crew's run"). A reader must believe this file.
 use mathlib.Core.List.{List, [], _∷_, _++_}
 use Prim.Native.Nat.{ℕ, zero, suc}
 use Rattle.network.specs.Crew.{Step}
 use Rattle.plan.specs.declared.Plan.{Plan}
 use Rattle.plan.specs.Answer.{Answer}
-use Rattle.search.specs.Search.{searchAnswer, searchLeaves}
 use Rattle.run.specs.declared.History.{History}
 use Rattle.run.specs.Run.{Told, instruct, complete, refuse, showAnswer, reportAnswer}
 
--- What answers the three calls, and what searching leaves in the buffer: this planner, or any other.
-pub record Planner : Type 0 where
-  pub searches : Plan → List ℕ → Answer ℕ
-  pub leaves : Plan → List ℕ → List ℕ
+-- What answers a crew's calls: this planner's run, or any other.
+pub record Run : Type 0 where
   pub shows : Plan → List ℕ → History → Told
   pub reports : Plan → List ℕ → History → ℕ → Answer History
 
--- this planner: the definitions that the contracts of `search`, `show` and `report` cite
-abbrev pub planner : Planner
-planner = record { searches = searchAnswer; leaves = searchLeaves; shows = showAnswer; reports = reportAnswer }
+-- this planner's: the definitions that the contracts of `show` and `report` cite
+abbrev pub theRun : Run
+theRun = record { shows = showAnswer; reports = reportAnswer }
 
 -- a call: showing, or reporting a mask
 pub data Call : Type 0 where
@@ -41,12 +37,12 @@ stepsOf complete o fault = []
 stepsOf (refuse n) o fault = []
 
 -- Each call is given the history as the call before left it: a report leaves the one that it hands back, a showing the one it was given.
-module _ (P : Planner) (p : Plan) (tree : List ℕ) where
+module _ (R : Run) (p : Plan) (tree : List ℕ) where
   unfoldable pub afterCall : Progress → Call → Progress
   afterCall r showing = r
   afterCall r (reporting o) =
-      let answer = P .reports p tree (r .history) o in
-      record { history = answer .value; steps = r .steps ++ stepsOf (P .shows p tree (r .history)) o (answer .fault) }
+      let answer = R .reports p tree (r .history) o in
+      record { history = answer .value; steps = r .steps ++ stepsOf (R .shows p tree (r .history)) o (answer .fault) }
 
   unfoldable pub afterCalls : Progress → List Call → Progress
   afterCalls r [] = r

@@ -10,7 +10,7 @@ use Rattle.run.specs.declared.Instruction.{Instruction}
 use Rattle.run.specs.declared.History.{History}
 use Rattle.following.specs.declared.Step.{Step}
 use Rattle.following.specs.declared.Followed.{Followed}
-use Rattle.following.specs.Calls.{planner, Call, showing, reporting, Progress, afterCall}
+use Rattle.following.specs.Calls.{theRun, Call, showing, reporting, Progress, afterCall}
 
 -- Two bytes are a call: 0 and any byte is a showing; another byte and a mask is the reporting of that mask. A last byte by itself is none.
 abbrev pub callOf : ℕ → ℕ → Call
@@ -49,4 +49,4 @@ oneStepMore f h v o =
 -- r records what a call leaves, wherever f records how far the crew had come
 abbrev pub AfterCall : Plan → List ℕ → Followed → ℕ → ℕ → Followed → Type 0
 AfterCall p tree f kind o r =
-    (progress : Progress) → f ≡ followedRecord progress → r ≡ followedRecord (afterCall planner p tree progress (callOf kind o))
+    (progress : Progress) → f ≡ followedRecord progress → r ≡ followedRecord (afterCall theRun p tree progress (callOf kind o))

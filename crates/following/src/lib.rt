@@ -6,7 +6,7 @@ use run::Instruction;
 use run::Shown;
 ghost use mathlib.Core.Path.{_≡_};
 ghost use Prim.Native.Nat.{_≤_, _<_};
-ghost use Rattle.following.specs.Calls.{planner, begun, afterCalls};
+ghost use Rattle.following.specs.Calls.{theRun, begun, afterCalls};
 ghost use Rattle.following.specs.Following.{callsIn, followedRecord, oneStepMore, AfterCall};
 
 // An instruction that was followed, and the report that was accepted there.
@@ -92,7 +92,7 @@ fn after_call(plan: Plan, nodes: &[u8], progress: Followed, kind: u8, mask: u8) 
 // The calls that the bytes say, two bytes to a call, over this plan and tree, the first one given this history. Any plan, any bytes, any
 // history.
 pub fn follow(plan: Plan, nodes: &[u8], history: History, calls: &[u8]) -> Followed
-    ensures { λ r. ⌜ r ≡ followedRecord (afterCalls planner plan (now (nodes .entry)) (begun history) (callsIn (now (calls .entry)))) ⌝ }
+    ensures { λ r. ⌜ r ≡ followedRecord (afterCalls theRun plan (now (nodes .entry)) (begun history) (callsIn (now (calls .entry)))) ⌝ }
 {
     let mut progress = begin(history);
     let mut rest = calls;

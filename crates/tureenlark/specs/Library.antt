@@ -17,7 +17,7 @@ use Rattle.checker.specs.Checker.{checkFault}
 use Rattle.search.specs.Search.{searchAnswer, searchLeaves}
 use Rattle.run.specs.declared.History.{History}
 use Rattle.run.specs.Run.{Told, showAnswer, reportAnswer}
-use Rattle.following.specs.Calls.{planner, Progress, begun, afterCalls}
+use Rattle.following.specs.Calls.{theRun, Progress, begun, afterCalls}
 use Rattle.following.specs.Following.{callsIn, zeroStep, followedRecord}
 use Rattle.verdict.specs.Verdict.{leastSchedule, screened}
 use Rattle.answer_text.specs.AnswerText.{answerText}
@@ -125,7 +125,7 @@ abbrev pub followShort : List ℕ → List ℕ → List ℕ → ℕ
 followShort plan history steps = first (planShort plan) (first (historyShort history) (shortFault stepsLength steps))
 
 abbrev pub followed : List ℕ → List ℕ → List ℕ → List ℕ → Progress
-followed plan tree history calls = afterCalls planner (planIn plan) tree (begun (historyIn history)) (callsIn calls)
+followed plan tree history calls = afterCalls theRun (planIn plan) tree (begun (historyIn history)) (callsIn calls)
 
 abbrev pub followNumber : List ℕ → List ℕ → List ℕ → List ℕ → List ℕ → ℕ
 followNumber plan tree history calls steps =

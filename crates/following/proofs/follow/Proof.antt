@@ -4,7 +4,7 @@ use native.Mathlib.Omega.{arith}
 use borrow.Author.Needs.{needs}
 use lib.ListN.{length}
 use Rattle.run.specs.declared.History.{History}
-use Rattle.following.specs.Calls.{planner, begun, afterCalls}
+use Rattle.following.specs.Calls.{theRun, begun, afterCalls}
 use Rattle.following.specs.Following.{callsIn, followedRecord}
 use Rattle.following.proofs.FollowLaws.{Stands, history-begun, stand-begins, fewer-bytes, steps-fit, stand-ends, stand-on}
 use Rattle.following.proofs.follow.Statement.{statement}
@@ -12,7 +12,7 @@ use Rattle.following.proofs.follow.Tie as tie
 
 abbrev Inv-loop : tie.InvT-loop
 Inv-loop plan nodes calls progress₀ rest₀ progress rest =
-    Stands plan nodes (afterCalls planner plan nodes (begun (progress₀ .history)) (callsIn calls)) progress rest
+    Stands plan nodes (afterCalls theRun plan nodes (begun (progress₀ .history)) (callsIn calls)) progress rest
 
 abbrev μ-loop : tie.MeasureT-loop
 μ-loop plan nodes calls progress₀ rest₀ progress rest = length rest
@@ -54,7 +54,7 @@ returns : tie.Need-returns Inv-loop μ-loop
 returns c =
     let a = c .before .before .before .before .before .args in
     stand-ends _ _ _ _ _ (c .before .loop .inv) (omega arith)
-    ∙ ap (λ (h : History). followedRecord (afterCalls planner (a .plan) (a .nodes .now) (begun h) (callsIn (a .calls .now))))
+    ∙ ap (λ (h : History). followedRecord (afterCalls theRun (a .plan) (a .nodes .now) (begun h) (callsIn (a .calls .now))))
     (history-begun _ _ (c .before .before .begin .ensures))
 
 pub follow-spec : {M : Type 1} → statement M
