@@ -39,7 +39,7 @@ use Rattle.verdict.proofs.AnswerLaws.{eight-answer, screen-plan-fault}
 use Rattle.answer_text.proofs.AnswerTextTheorems.{tree-legal, by-input}
 use Rattle.demands.specs.Demand1.{OneOf, Demand1}
 use Rattle.demands.proofs.Demand1Laws.{one-of, one-of-more, one-between, first-one, unless-one, by-plan, plan-one}
-use Rattle.demands.proofs.Demand1Laws.{fills, write-one, write-length, write-fills, Numbered, told-numbered, fault-numbered, report-one}
+use Rattle.demands.proofs.Demand1Laws.{fills, write-one, write-length, write-fills, crewNumbers, Numbered, told-numbered, fault-numbered, report-one}
 
 -- ---- reading a tree text
 
@@ -76,7 +76,7 @@ check-one p bs =
 
 -- ---- searching
 
-search-one : (p : Plan) (xs : List ℕ) → OneOf (0 ∷ 2 ∷ 3 ∷ 4 ∷ 10 ∷ 11 ∷ []) (searchAnswer p xs .fault)
+pub search-one : (p : Plan) (xs : List ℕ) → OneOf (0 ∷ 2 ∷ 3 ∷ 4 ∷ 10 ∷ 11 ∷ []) (searchAnswer p xs .fault)
 search-one p xs =
     rw (fault-is p xs)
     (by-fault p xs
@@ -87,14 +87,16 @@ search-one p xs =
 
 -- ---- the crew
 
-show-numbered : (p : Plan) (bs : List ℕ) (h : History) → Numbered (showAnswer p bs h)
+pub show-numbered : (p : Plan) (bs : List ℕ) (h : History) → Numbered (showAnswer p bs h)
 unfolding showAnswer
 show-numbered p bs h =
     fault-numbered _ _
     (first-one _ _ _ (one-of-more _ _ _ refl (check-one p bs)) (unless-one _ (historyFine h) refusal.Mask refl))
     (told-numbered p (start (networkOf p)) bs (reportsIn h))
 
--- ---- the program
+pub reports-one : (p : Plan) (bs : List ℕ) (h : History) (o : ℕ) → OneOf (0 ∷ crewNumbers) (reportAnswer p bs h o .fault)
+unfolding reportAnswer
+reports-one p bs h o = report-one p (showAnswer p bs h) o (show-numbered p bs h)
 
 -- ---- The theorem
 
@@ -127,7 +129,7 @@ demand1 =
       search-refused = λ p xs n m. refused-stays p xs (λ e. n (fault-is p xs ∙ e)) (λ e. m (fault-is p xs ∙ e));
       search-past = past-stays;
       show = λ p bs h n e. one-of-more _ _ _ refl (subst Numbered e (show-numbered p bs h));
-      report = λ p bs h o. one-of-more _ _ _ refl (report-one p (showAnswer p bs h) o (show-numbered p bs h));
+      report = λ p bs h o. one-of-more _ _ _ refl (reports-one p bs h o);
       report-longer = accepted-longer;
       report-refused = refused-same;
       verdict = λ p values. first-one _ _ _ (plan-one _ refl p) (unless-one _ (ltb values (2 ^ p .letters)) refusal.Mask refl);

@@ -8,3 +8,7 @@ pub mod MadeLaws
 pub mod CallLaws
 pub mod EveryListLaws
 pub mod Demand3Theorem
+pub mod SaidLaws
+pub mod Corollaries
+pub mod Cases
+pub mod Impostors

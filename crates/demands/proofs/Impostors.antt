@@ -1,13 +1,13 @@
 -- Impostors: planners that document 01 won't take, and more. None meets demand 3; a comment says which part of it each one breaks. Read
 -- the planners and the statements; only the checker need believe the proofs.
-use mathlib.Core.Path.{_≡_, refl, sym, ap, _∙_}
+use mathlib.Core.Path.{_≡_, refl, sym, ap, _∙_, subst}
 use mathlib.Core.Logic.{inl, inr}
 use mathlib.Core.List.{List, [], _∷_}
 use mathlib.Core.Bool.{true, false, cond}
 use Prim.Native.Nat.{ℕ, zero, suc, _≤_, _<_}
 use native.Mathlib.Omega.{arith}
 use lib.Bits.{bitAnd}
-use lib.Dec.{eqb}
+use lib.Dec.{leb, eqb}
 use lib.ListN.{length, getD, replicate}
 use Rattle.network.specs.Mask.{mask}
 use Rattle.network.specs.Network.{condition, keeps}
@@ -15,31 +15,42 @@ use Rattle.network.specs.Strategy.{DynamicallyConsistent}
 use Rattle.network.specs.Game.{start, Move, hears}
 use Rattle.network.specs.Search.{firstTree}
 use Rattle.network.specs.Crew.{Step, timesPerformed, slotBySteps, valueBySteps, Some, Hears, HeardAlike, ToldAlike}
-use Rattle.network.proofs.Booleans.{clash, and-left, ltb-is}
+use Rattle.network.proofs.Booleans.{by-test, clash, and-left, ltb-is}
 use Rattle.plan.specs.declared.Plan.{Plan}
 use Rattle.plan.specs.declared.Refusal.the-variants as refusal
+use Rattle.plan.specs.declared.Judged.the-variants as judged
 use Rattle.plan.specs.Refusal.{refusalNumber}
-use Rattle.plan.specs.Answer.{unless, Answer, fine}
+use Rattle.plan.specs.Answer.{unless, first, Answer, fine}
 use Rattle.plan.specs.Plan.{networkOf}
 use Rattle.plan.specs.Letters.{heardBy}
 use Rattle.plan.specs.WellFormed.{WellFormed}
 use Rattle.plan.proofs.Cases.{letter, constraint, plan, one-point}
 use Rattle.masks.specs.Masks.{inside}
+use Rattle.judge.specs.Judge.{planFault}
 use Rattle.judge.proofs.WellFormedLaws as judge
-use Rattle.tree.specs.Nodes.{mostBytes}
+use Rattle.tree.specs.Nodes.{mostBytes, firstNodes}
 use Rattle.tree.specs.Trees.{treeBytes}
 use Rattle.checker.proofs.Cases.{never}
+use Rattle.search.specs.declared.Searched.the-variants as searched
 use Rattle.search.specs.Search.{searchFault, searchAnswer, overwritten, searchLeaves}
 use Rattle.search.proofs.SearchTheorems.{first-moves, fine-exactly}
 use Rattle.search.proofs.Cases.{computing}
 use Rattle.run.specs.declared.History.{History}
+use Rattle.run.specs.declared.Shown.the-variants as shown
 use Rattle.run.specs.History.{emptyHistory, reportsIn, longer}
 use Rattle.run.specs.Run.{Told, instruct, complete, refuse, toldFrom, showAnswer, reportFault, reportAnswer}
 use Rattle.run.proofs.ToldLaws.{refused-is-not}
 use Rattle.run.proofs.Cases.{move}
-use Rattle.following.specs.Calls.{Planner, Call, reporting}
+use Rattle.following.specs.Calls.{Run, theRun, Call, reporting}
 use Rattle.following.proofs.Cases.{calling, step}
-use Rattle.demands.specs.Demand3.{Hopeless, madeTree, stepsAfter, toldAfter, EveryTwoLists, Demand3For, Demand3}
+use Rattle.demands.specs.Planner.{Planner}
+use Rattle.demands.specs.ThisPlanner.{planner}
+use Rattle.demands.specs.Demand1.{OneOf}
+use Rattle.demands.specs.Demand3.{Hopeless, Demand3For, Demand3}
+use Rattle.demands.proofs.Demand1Laws.{unless-one, crewNumbers, Numbered, told-numbered, report-one}
+use Rattle.demands.proofs.Demand1Theorem.{show-numbered}
+use Rattle.demands.proofs.ListLaws.{stepsAfter, toldAfter, EveryList, EveryTwoLists}
+use Rattle.demands.proofs.SaidLaws.{told-said, reported-said, AllSaid, run-said, list-of, two-lists-of, crewOf}
 
 -- ---- What the refutations share
 
@@ -50,19 +61,54 @@ lent = replicate 573 9
 room : mostBytes ≤ length lent
 room = omega arith
 
--- a plan that gets no fault is not refused as hopeless
-hopeful : (P : Planner) (p : Plan) → P .searches p lent .fault ≡ 0 → ¬ Hopeless P p lent
-hopeful P p e h = let z : _≡_ {A = ℕ} 0 11 = sym e ∙ h in omega arith
+-- this planner with another search, or with another run
+abbrev searching : (Plan → List ℕ → Answer ℕ) → (Plan → List ℕ → List ℕ) → Run → Planner
+searching searches leaves run =
+    record {
+      judges = planner .judges;
+      readsPlan = planner .readsPlan;
+      writesPlan = planner .writesPlan;
+      planWritten = planner .planWritten;
+      readsTree = planner .readsTree;
+      treeRead = planner .treeRead;
+      writesTree = planner .writesTree;
+      treeWritten = planner .treeWritten;
+      checks = planner .checks;
+      searches = searches;
+      leaves = leaves;
+      run = run;
+      follows = planner .follows;
+      fixes = planner .fixes;
+      screens = planner .screens;
+      refuses = planner .refuses;
+      prints = planner .prints;
+    }
+
+abbrev running : Run → Planner
+running run = searching searchAnswer searchLeaves run
 
 -- who is refused is not done
 not-done : {t : Told} {n : ℕ} → t ≡ refuse n → t ≡ complete → ⊥
 not-done r c = let z : _≡_ {A = ℕ} 0 1 = cc in omega arith
 
--- The walk breaks where the tree that was made is refused: the crew is not done, and its history cannot be lengthened.
-no-walk :
-    (P : Planner) (p : Plan) → P .searches p lent .fault ≡ 0 → (n : ℕ) → toldAfter P p (madeTree P p lent) [] ≡ refuse n →
-    Demand3For P p lent → ⊥
-no-walk P p e n r d = refused-is-not (sym r ∙ d .every-list (hopeful P p e) [] .goes-on (not-done r) .is-told)
+-- what demand 3 says of a plan that got n nodes, and of lists of calls over the tree that was made of it
+module _ (P : Planner) (d : Demand3 P) (p : Plan) (wf : WellFormed p) (n : ℕ) (got : P .searches p lent ≡ fine n) where
+  abbrev made : List ℕ
+  made = firstNodes (P .leaves p lent) n
+
+  got-tree : Demand3For (P .run) p lent (searched.Nodes n) (P .leaves p lent)
+  got-tree = d p lent wf room (searched.Nodes n) (P .leaves p lent) (record { answer = sym got; buffer = refl })
+
+  module _ (said : AllSaid (P .run) p made) where
+    every-list : (calls : List Call) → EveryList (P .run) p made calls
+    every-list calls = list-of (P .run) p made said calls (got-tree .every-crew n refl (crewOf (P .run) p made said calls))
+
+    every-two-lists : EveryTwoLists (P .run) p made
+    every-two-lists = two-lists-of (P .run) p made said (got-tree .every-two-crews n refl)
+
+    -- The walk breaks where the tree that was made is refused: the crew is not done, and its history cannot be lengthened.
+    no-walk : (k : ℕ) → toldAfter (P .run) p made [] ≡ refuse k → ⊥
+    no-walk k r = refused-is-not (sym r ∙ every-list [] .goes-on (not-done r) .is-told)
 
 -- a report that gets this fault: without one the longer history is handed back, else the one that was given
 abbrev reportedBy : ℕ → History → ℕ → Answer History
@@ -87,51 +133,62 @@ k1-answer = (refl, refl, refl)
 k1-consistent : DynamicallyConsistent (networkOf k1)
 k1-consistent = fine-exactly k1 lent k1-fine room .0 (k1-answer .0)
 
--- this planner finds no fault in it
-k1-no-fault : searchAnswer k1 lent .fault ≡ 0
-k1-no-fault = ap (λ (x : Answer ℕ). x .fault) (k1-answer .1)
-
--- ---- A search that calls every plan hopeless, or says 11 before looking. It breaks part 1: K1 has a strategy.
+-- ---- A search that calls every plan hopeless, once buffer and plan are judged. It breaks part 1, "exactly when": K1 has a strategy.
 
 abbrev pub always-hopeless : Planner
 always-hopeless =
-    record {
-      searches = λ p xs. record { fault = refusalNumber refusal.Hopeless; value = 0 };
-      leaves = λ p xs. overwritten [] xs;
-      shows = showAnswer;
-      reports = reportAnswer;
-    }
+    searching
+    (λ p xs.
+    let judged = first (unless (leb mostBytes (length xs)) refusal.Buffer) (first (planFault p) (refusalNumber refusal.Hopeless)) in
+    record { fault = judged; value = 0 })
+    (λ p xs. overwritten [] xs) theRun
 
 pub always-hopeless-fails : ¬ Demand3 always-hopeless
-always-hopeless-fails d = d k1 lent k1-fine room .hopeless-exactly .0 refl k1-consistent
+unfolding computing
+always-hopeless-fails d =
+    d k1 lent k1-fine room (searched.Refused refusal.Hopeless) (overwritten [] lent) (record { answer = refl; buffer = refl })
+    .hopeless-exactly .0 refl k1-consistent
+
+-- ---- A search that says 11 before looking, at any plan or buffer. It breaks part 1 too: of K1 it says hopeless, which has a strategy.
+
+abbrev pub before-looking : Planner
+before-looking =
+    searching (λ p xs. record { fault = refusalNumber refusal.Hopeless; value = 0 }) (λ p xs. overwritten [] xs) theRun
+
+pub before-looking-fails : ¬ Demand3 before-looking
+before-looking-fails d =
+    d k1 lent k1-fine room (searched.Refused refusal.Hopeless) (overwritten [] lent) (record { answer = refl; buffer = refl })
+    .hopeless-exactly .0 refl k1-consistent
 
 -- ---- A search that leaves the buffer alone. It breaks part 3: the bytes are not those of K1's tree.
 
 abbrev pub buffer-alone : Planner
-buffer-alone = record { searches = searchAnswer; leaves = λ p xs. xs; shows = showAnswer; reports = reportAnswer }
+buffer-alone = searching searchAnswer (λ p xs. xs) theRun
+
+not-hopeless : (n : ℕ) → ¬ Hopeless (searched.Nodes n)
+not-hopeless n e = let z : _≡_ {A = ℕ} 0 1 = cc in omega arith
 
 pub buffer-alone-fails : ¬ Demand3 buffer-alone
 buffer-alone-fails d =
-    let fine = hopeful buffer-alone k1 k1-no-fault in
-    let gets = d k1 lent k1-fine room .gets-tree fine (firstTree (networkOf k1)) (first-moves k1 lent (k1-answer .0)) in
-    let same : lent ≡ overwritten k1-bytes lent = gets .bytes ∙ ap (λ (x : List ℕ). overwritten x lent) (k1-answer .2) in
+    let gets = got-tree buffer-alone d k1 k1-fine 1 (k1-answer .1) .gets-tree (not-hopeless 1) (firstTree (networkOf k1)) (first-moves k1 lent (k1-answer .0)) in
+    let same : lent ≡ overwritten k1-bytes lent = gets .1 ∙ ap (λ (x : List ℕ). overwritten x lent) (k1-answer .2) in
     let z : _≡_ {A = ℕ} 9 0 = ap (λ (x : List ℕ). getD x 0 0) same in
     omega arith
 
 -- .. and the walk, part 4: over the bytes that were lent the crew is refused at once.
-buffer-alone-told : toldAfter buffer-alone k1 (madeTree buffer-alone k1 lent) [] ≡ refuse 6
-unfolding computing calling
+buffer-alone-told : toldAfter theRun k1 (firstNodes lent 1) [] ≡ refuse 6
+unfolding calling
 buffer-alone-told = refl
 
 pub buffer-alone-fails-walking : ¬ Demand3 buffer-alone
-buffer-alone-fails-walking d = no-walk buffer-alone k1 k1-no-fault 6 buffer-alone-told (d k1 lent k1-fine room)
+buffer-alone-fails-walking d =
+    no-walk buffer-alone d k1 k1-fine 1 (k1-answer .1) (run-said k1 (firstNodes lent 1)) 6 buffer-alone-told
 
 -- ---- A search that hands out the same tree each time. It breaks the walk, part 4: where that tree breaks a constraint of the plan that
 -- was handed in, the crew is refused at once, so it is not done and cannot go on.
 
 abbrev pub same-tree : Planner
-same-tree =
-    record { searches = λ p xs. fine 1; leaves = λ p xs. overwritten k1-bytes xs; shows = showAnswer; reports = reportAnswer }
+same-tree = searching (λ p xs. fine 1) (λ p xs. overwritten k1-bytes xs) theRun
 
 -- one point and decision 0 at it, which must be true
 abbrev decided : Plan
@@ -141,33 +198,41 @@ decided-fine : WellFormed decided
 unfolding computing
 decided-fine = judge.fine-exactly decided .0 refl
 
-same-tree-told : toldAfter same-tree decided (madeTree same-tree decided lent) [] ≡ refuse 7
+same-tree-told : toldAfter theRun decided k1-bytes [] ≡ refuse 7
 unfolding calling
 same-tree-told = refl
 
 pub same-tree-fails : ¬ Demand3 same-tree
-same-tree-fails d = no-walk same-tree decided refl 7 same-tree-told (d decided lent decided-fine room)
+same-tree-fails d = no-walk same-tree d decided decided-fine 1 refl (run-said decided k1-bytes) 7 same-tree-told
 
 -- .. even where its run doesn't check the tree: then it breaks part 5, as the crew is led past that plan's constraint.
 abbrev toldUnchecked : Plan → List ℕ → History → Told
 toldUnchecked p tree h = toldFrom p (start (networkOf p)) tree (reportsIn h)
 
+abbrev unchecked : Run
+unchecked =
+    record { shows = toldUnchecked; reports = λ p tree h o. reportedBy (reportFault p (toldUnchecked p tree h) o) h o }
+
 abbrev pub same-tree-unchecked : Planner
-same-tree-unchecked =
+same-tree-unchecked = searching (λ p xs. fine 1) (λ p xs. overwritten k1-bytes xs) unchecked
+
+unchecked-numbered : (p : Plan) (tree : List ℕ) (h : History) → Numbered (toldUnchecked p tree h)
+unchecked-numbered p tree h = told-numbered p (start (networkOf p)) tree (reportsIn h)
+
+unchecked-said : (p : Plan) (tree : List ℕ) → AllSaid unchecked p tree
+unchecked-said p tree =
     record {
-      searches = λ p xs. fine 1;
-      leaves = λ p xs. overwritten k1-bytes xs;
-      shows = toldUnchecked;
-      reports = λ p tree h o. reportedBy (reportFault p (toldUnchecked p tree h) o) h o;
+      shows = λ h. told-said (toldUnchecked p tree h) (unchecked-numbered p tree h);
+      reports = λ h o.
+          reported-said (reportedBy (reportFault p (toldUnchecked p tree h) o) h o) (report-one p (toldUnchecked p tree h) o (unchecked-numbered p tree h));
     }
 
 abbrev unchecked-steps : List Step
 unchecked-steps = step (move 0 1 0) 0 ∷ []
 
 unchecked-run :
-    let tree = madeTree same-tree-unchecked decided lent in
-    (stepsAfter same-tree-unchecked decided tree (reporting 0 ∷ []) ≡ unchecked-steps)
-    × (toldAfter same-tree-unchecked decided tree (reporting 0 ∷ []) ≡ complete)
+    (stepsAfter unchecked decided k1-bytes (reporting 0 ∷ []) ≡ unchecked-steps)
+    × (toldAfter unchecked decided k1-bytes (reporting 0 ∷ []) ≡ complete)
 unfolding calling
 unchecked-run = (refl, refl)
 
@@ -178,7 +243,7 @@ unchecked-breaks = refl
 
 pub same-tree-unchecked-fails : ¬ Demand3 same-tree-unchecked
 same-tree-unchecked-fails d =
-    let all = d decided lent decided-fine room .every-list (hopeful same-tree-unchecked decided refl) (reporting 0 ∷ []) in
+    let all = every-list same-tree-unchecked d decided decided-fine 1 refl (unchecked-said decided k1-bytes) (reporting 0 ∷ []) in
     let kept = all .constraints-held (unchecked-run .1) in
     clash (rw (unchecked-run .0) at kept) unchecked-breaks
 
@@ -186,29 +251,28 @@ same-tree-unchecked-fails d =
 
 abbrev pub wrong-count : Planner
 wrong-count =
-    record {
-      searches = λ p xs. record { fault = searchAnswer p xs .fault; value = suc (searchAnswer p xs .value) };
-      leaves = searchLeaves;
-      shows = showAnswer;
-      reports = reportAnswer;
-    }
+    searching (λ p xs. record { fault = searchAnswer p xs .fault; value = suc (searchAnswer p xs .value) }) searchLeaves theRun
 
-wrong-count-told : toldAfter wrong-count k1 (madeTree wrong-count k1 lent) [] ≡ refuse 6
+wrong-count-says : (wrong-count .searches k1 lent ≡ fine 2) × (toldAfter theRun k1 (firstNodes (searchLeaves k1 lent) 2) [] ≡ refuse 6)
 unfolding computing calling
-wrong-count-told = refl
+wrong-count-says = (refl, refl)
 
 pub wrong-count-fails : ¬ Demand3 wrong-count
-wrong-count-fails d = no-walk wrong-count k1 k1-no-fault 6 wrong-count-told (d k1 lent k1-fine room)
+wrong-count-fails d =
+    no-walk wrong-count d k1 k1-fine 2 (wrong-count-says .0) (run-said k1 (firstNodes (searchLeaves k1 lent) 2)) 6 (wrong-count-says .1)
 
 -- ---- A run that says done early. It breaks part 5: after no call at all it is done, and point 0 was never performed.
 
 abbrev pub done-early : Planner
-done-early = record { searches = searchAnswer; leaves = searchLeaves; shows = λ p tree h. complete; reports = reportAnswer }
+done-early = running (record { shows = λ p tree h. complete; reports = reportAnswer })
+
+early-said : (p : Plan) (tree : List ℕ) → AllSaid (done-early .run) p tree
+early-said p tree = record { shows = λ h. (shown.Done, refl); reports = run-said p tree .reports }
 
 pub done-early-fails : ¬ Demand3 done-early
 unfolding calling timesPerformed
 done-early-fails d =
-    let all = d k1 lent k1-fine room .every-list (hopeful done-early k1 k1-no-fault) [] in
+    let all = every-list done-early d k1 k1-fine 1 (k1-answer .1) (early-said k1 _) [] in
     let z : _≡_ {A = ℕ} 0 1 = all .performed-once refl 0 (omega arith) in
     omega arith
 
@@ -237,13 +301,23 @@ faultAhead p tree h o =
     let one = reportFault p (toldAhead p tree h) o in
     cond (eqb (h .count) 0) whole one
 
+abbrev ahead : Run
+ahead = record { shows = toldAhead; reports = λ p tree h o. reportedBy (faultAhead p tree h o) h o }
+
 abbrev pub whole-path : Planner
-whole-path =
+whole-path = running ahead
+
+ahead-one : (p : Plan) (tree : List ℕ) (h : History) (o : ℕ) → OneOf (0 ∷ crewNumbers) (faultAhead p tree h o)
+ahead-one p tree h o =
+    by-test (eqb (h .count) 0)
+    (λ y. rw y (unless-one (0 ∷ crewNumbers) (inside o (mask 6 (condition (networkOf p)))) refusal.Mask refl))
+    (λ z. rw z (report-one p (toldAhead p tree h) o (show-numbered p tree _)))
+
+ahead-said : (p : Plan) (tree : List ℕ) → AllSaid ahead p tree
+ahead-said p tree =
     record {
-      searches = searchAnswer;
-      leaves = searchLeaves;
-      shows = toldAhead;
-      reports = λ p tree h o. reportedBy (faultAhead p tree h o) h o;
+      shows = λ h. run-said p tree .shows (foresee p tree (h .count) (getD (h .masks) 0 0) emptyHistory);
+      reports = λ h o. reported-said (reportedBy (faultAhead p tree h o) h o) (ahead-one p tree h o);
     }
 
 -- K4 with a free point before its two: condition 0 at point 1; where it is true, point 2 at most 1 after point 1, else at least 2 after it
@@ -257,7 +331,7 @@ late-fine : WellFormed late
 unfolding computing
 late-fine = judge.fine-exactly late .0 refl
 
-late-made : (searchAnswer late lent .fault ≡ 0) × (madeTree whole-path late lent ≡ late-tree)
+late-made : (searchAnswer late lent ≡ fine 4) × (firstNodes (searchLeaves late lent) 4 ≡ late-tree)
 unfolding computing
 late-made = (refl, refl)
 
@@ -275,12 +349,12 @@ false-steps = step (move 0 1 0) 0 ∷ step (move 1 2 0) 0 ∷ step (move 3 4 0) 
 abbrev true-steps : List Step
 true-steps = step (move 0 1 0) 1 ∷ step (move 1 2 0) 0 ∷ step (move 2 4 0) 0 ∷ []
 
-both-done : (toldAfter whole-path late late-tree false-first ≡ complete) × (toldAfter whole-path late late-tree true-first ≡ complete)
+both-done : (toldAfter ahead late late-tree false-first ≡ complete) × (toldAfter ahead late late-tree true-first ≡ complete)
 unfolding calling foresee
 both-done = (refl, refl)
 
 both-steps :
-    (stepsAfter whole-path late late-tree false-first ≡ false-steps) × (stepsAfter whole-path late late-tree true-first ≡ true-steps)
+    (stepsAfter ahead late late-tree false-first ≡ false-steps) × (stepsAfter ahead late late-tree true-first ≡ true-steps)
 unfolding calling foresee
 both-steps = (refl, refl)
 
@@ -320,8 +394,10 @@ unfolding Some
 not-told-alike (inl same) = none-told (same .0) (same .1) (same .2)
 not-told-alike (inr neither) = neither .1 (inr (inr (inl refl)))
 
-late-lists : Demand3 whole-path → EveryTwoLists whole-path late late-tree
-late-lists d = rw (late-made .1) at (d late lent late-fine room .every-two-lists (hopeful whole-path late (late-made .0)))
+late-lists : Demand3 whole-path → EveryTwoLists ahead late late-tree
+late-lists d =
+    subst (EveryTwoLists ahead late) (late-made .1)
+    (every-two-lists whole-path d late late-fine 4 (late-made .0) (ahead-said late (firstNodes (searchLeaves late lent) 4)))
 
 pub whole-path-fails : ¬ Demand3 whole-path
 whole-path-fails d =
@@ -331,11 +407,18 @@ whole-path-fails d =
 -- ---- A run that accepts any report. It breaks part 4: after nine reports the history holds nine.
 
 abbrev pub any-report : Planner
-any-report = record { searches = searchAnswer; leaves = searchLeaves; shows = showAnswer; reports = λ p tree h o. fine (longer h o) }
+any-report = running (record { shows = showAnswer; reports = λ p tree h o. fine (longer h o) })
+
+any-said : (p : Plan) (tree : List ℕ) → AllSaid (any-report .run) p tree
+any-said p tree =
+    record {
+      shows = run-said p tree .shows;
+      reports = λ h o. (record { answer = judged.Fine; history = longer h o }, refl);
+    }
 
 pub any-report-fails : ¬ Demand3 any-report
 unfolding calling
 any-report-fails d =
-    let all = d k1 lent k1-fine room .every-list (hopeful any-report k1 k1-no-fault) (replicate 9 (reporting 0)) in
+    let all = every-list any-report d k1 k1-fine 1 (k1-answer .1) (any-said k1 _) (replicate 9 (reporting 0)) in
     let z : 9 ≤ 8 = all .at-most-8 in
     omega arith
