@@ -122,7 +122,7 @@ module _ (p : Plan) (wf : WellFormed p) (at : Position) (ok : Proper p at) (bs :
             read =
                 subst (λ (x : Node). isLegal p (stateOf p at) (moveOf x) ≡ true → subtreeAt p (stateOf p at) bs ≡ subtreesOf x) (sym front)
                 (is-read whole) legal
-                ∙ rw (submasks-are-outcomes p (wf .letters) (moveOf v))
+                ∙ rw (submasks-are-outcomes p (wf .head .letters) (moveOf v))
                 (ap (λ (sub : ℕ → List ℕ → Checked). withSubtrees sub bs (outcomes (networkOf p) (moveOf v)))
                 (λ i k. subtreeAt p (sym (next-is p wf at ok v is-legal k long) i)));
             proper = λ k. next-proper p wf at ok v is-legal k;

@@ -50,7 +50,7 @@ module _ (p : Plan) (wf : WellFormed p) (bs : List ℕ) where
   -- the plan has a point, so the tree has a node
   some-node : (t : Tree) → Shaped net t → 1 ≤ nodes net t
   unfolding Sound nodes
-  some-node done sd = clash (all-left net 0 (wf .some-point)) (sd .0 0 (wf .some-point))
+  some-node done sd = clash (all-left net 0 (wf .head .some-point)) (sd .0 0 (wf .head .some-point))
   some-node (node m next) sd = omega arith
 
   described-length : (t : Tree) → Describes net bs t → length bs ≡ 3 * nodes net t

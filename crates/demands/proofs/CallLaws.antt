@@ -64,7 +64,7 @@ module _ (p : Plan) (wf : WellFormed p) where
   stands done (st ∷ log) fo = absurd fo
   stands (node m next) [] fo = inr (record { move = m; is-told = refl; leads-on = λ o ok. (refl, ok, tt) })
   stands (node m next) (st ∷ log) fo =
-      let y = may-is p (wf .letters) m (st .report) .1 (fo .1) in
+      let y = may-is p (wf .head .letters) m (st .report) .1 (fo .1) in
       ⊎-elim
       (λ (d : PastLast (next (st .report)) log). inl (record { is-told = rw y (d .is-told); at-end = d .at-end }))
       (λ (a : AtNode (next (st .report)) log). inr (record {
@@ -91,7 +91,7 @@ module _ (p : Plan) (wf : WellFormed p) where
     at-most-8 log fo =
         let steps = steps-length net (is-network p wf) (λ s. Unit {0}) t (start net) log (d .shaped) fo in
         let points = count-le (p .points) (bit (start net .left)) in
-        let few = wf .points in
+        let few = wf .head .points in
         let same : length (reportsOf log) ≡ length log = length-map log (λ st. st .report) in
         omega (arith, steps, points, few, same)
 
@@ -141,7 +141,7 @@ module _ (p : Plan) (wf : WellFormed p) where
           let e = told ∙ a .is-told in
           let more = log ++ stepOf m o ∷ [] in
           by-test (mayReport p m o)
-          (λ y. let fo′ = a .leads-on o (may-is p (wf .letters) m o .0 y) in
+          (λ y. let fo′ = a .leads-on o (may-is p (wf .head .letters) m o .0 y) in
           let le = at-most-8 more fo′ in
           let long : length (reportsOf more) ≡ length (reportsOf log) + 1
           = ap length (reports-more log m o) ∙ length-append (reportsOf log) (o ∷ []) in

@@ -75,8 +75,8 @@ module _ (p : Plan) (wf : WellFormed p) (bs : List ℕ) (fine : checkFault p bs 
           instruction = m;
           is-told = told;
           accepts-exactly = λ o. (
-            λ f. may-is p (wf .letters) m o .0 (unless-is (mayReport p m o) refusal.Mask (sym (fault o) ∙ f)),
-            λ ok. fault o ∙ rw (may-is p (wf .letters) m o .1 ok),
+            λ f. may-is p (wf .head .letters) m o .0 (unless-is (mayReport p m o) refusal.Mask (sym (fault o) ∙ f)),
+            λ ok. fault o ∙ rw (may-is p (wf .head .letters) m o .1 ok),
           );
           lengthens = accepted-longer p bs h;
         }

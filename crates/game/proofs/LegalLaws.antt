@@ -26,7 +26,7 @@ pub choices-settled :
 choices-settled p wf s m lg l y =
     let q = lg .disclosed l y in
     let lt : l < p .letters = decision-lt (networkOf p) l (settled-decision (networkOf p) m l q) in
-    let few = wf .letters in
+    let few = wf .head .letters in
     bit-mask 6 (settles (networkOf p) m) l (omega arith) ∙ q
 
 module _ (p : Plan) (wf : WellFormed p) (s : State) (in-s : Inside (networkOf p) s) (m : Move) where

@@ -25,7 +25,7 @@ module _
     (p : Plan) (wf : WellFormed p) (at : Position) (ok : Proper p at) (v : Node) (lg : Legal (networkOf p) (stateOf p at) (moveOf v))
     (k : ℕ) where
   outcome-is : Outcome (networkOf p) (moveOf v) (submask 8 (bit (heardBy p (v .points))) k)
-  outcome-is = rw (numbered-is-outcome p (wf .letters) (moveOf v) k) (outcome-at-is (networkOf p) (moveOf v) k)
+  outcome-is = rw (numbered-is-outcome p (wf .head .letters) (moveOf v) k) (outcome-at-is (networkOf p) (moveOf v) k)
 
   pub next-proper : Proper p (next p at v k)
   next-proper = after-proper p wf at v _ ok lg outcome-is
@@ -37,4 +37,4 @@ module _
       length (at .slots) ≡ 8 → stateOf p (next p at v k) ≡ after (networkOf p) (stateOf p at) (moveOf v) (outcomeAt (networkOf p) (moveOf v) k)
   next-is long =
       after-is p wf at v _ ok lg outcome-is long
-      ∙ ap (after (networkOf p) (stateOf p at) (moveOf v)) (numbered-is-outcome p (wf .letters) (moveOf v) k)
+      ∙ ap (after (networkOf p) (stateOf p at) (moveOf v)) (numbered-is-outcome p (wf .head .letters) (moveOf v) k)

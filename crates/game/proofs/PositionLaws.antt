@@ -56,7 +56,7 @@ module _ (p : Plan) (wf : WellFormed p) where
   pub start-is : stateOf p (startPosition p) ≡ start net
   unfolding start
   start-is =
-      let left = mask-first (p .points) 8 (wf .points) in
+      let left = mask-first (p .points) 8 (wf .head .points) in
       let slots = fun-ext (all-same {E = ℕ} 8 0) in
       let heard = none-set (p .letters) (condition net) in
       let decided = none-set (p .letters) (decision net) in
@@ -121,7 +121,7 @@ module _ (p : Plan) (wf : WellFormed p) where
     pub fewer : count 8 (bit (positionAfter at v o .left)) < count 8 (bit (at .left))
     fewer =
         let x = lg .some in
-        let few = wf .points in
+        let few = wf .head .points in
         let lt = x .1 in
         count-drop 8 (bit (at .left)) (bit (positionAfter at v o .left))
         (λ i l y. and-left (bit (at .left) i) (not (bit (v .points) i)) (in-mask 8 _ i y .1)) (x .0) (omega arith)
@@ -177,7 +177,7 @@ module _ (p : Plan) (wf : WellFormed p) where
           mask-cong (p .letters)
           (λ l. kind l && bit (positionAfter at v o .values) l)
           (λ l. cond (now l) (new l) (bit (mask (p .letters) (λ k. kind k && bit (at .values) k)) l))
-          (λ l lt. let few = wf .letters in
+          (λ l lt. let few = wf .head .letters in
           rw (bit-mask 8 value l (omega arith), bit-mask (p .letters) (λ k. kind k && bit (at .values) k) l lt) (h l))
 
       slots-after :
@@ -187,7 +187,7 @@ module _ (p : Plan) (wf : WellFormed p) where
           by-cases (decLt x 8)
           (λ lt. get-listed 0 8 _ x lt)
           (λ ge. let new = after-long at v o in
-          let few = wf .points in
+          let few = wf .head .points in
           let none : bit (v .points) x ≡ false
           = by-test (bit (v .points) x) (λ y. let lt = ok .points-left x (lg .not-yet x y) in absurd (omega arith)) (λ z. z) in
           List·getD-eq-default (positionAfter at v o .slots) 0 (omega arith)
@@ -197,7 +197,7 @@ module _ (p : Plan) (wf : WellFormed p) where
       unfolding after
       after-is long =
           let next = add-one (v .slot) in
-          let left = mask-narrow (p .points) 8 (λ x. bit (at .left) x && not (bit (v .points) x)) (wf .points)
+          let left = mask-narrow (p .points) 8 (λ x. bit (at .left) x && not (bit (v .points) x)) (wf .head .points)
           (λ x y. ok .points-left x (and-left (bit (at .left) x) (not (bit (v .points) x)) y)) in
           let slots = fun-ext (slots-after long) in
           let heard = mask-after (condition net) (hears net (moveOf v)) (bit o) heard-after in

@@ -1,4 +1,4 @@
--- Laws: the modules of this folder. Only the checker need believe them; JudgeTheorems.antt has a statement to read.
+-- Laws: the modules of this folder. Only the checker need believe them; JudgeTheorems.antt has the statements to read.
 pub mod JudgeLaws
 pub mod WellFormedLaws
 pub mod JudgeTheorems

@@ -1,4 +1,4 @@
--- Laws of the judgement: no fault is well-formed; when each fault is the first. Only the checker need believe this file.
+-- Laws of the judgement: which fault comes first, by the parts of a well-formed plan. Only the checker need believe this file.
 use mathlib.Core.Path.{_≡_, refl, sym}
 use mathlib.Core.Logic.{_↔_, by-cases, inl, inr, ⊎-elim}
 use mathlib.Core.Bool.{Bool, true, false, cond}
@@ -6,7 +6,7 @@ use Prim.Native.Nat.{ℕ, _≤_, _<_}
 use native.Mathlib.Omega.{arith}
 use native.Mathlib.Decide.{decLt}
 use lib.Dec.{ltb}
-use Rattle.network.proofs.Booleans.{by-test, clash, ltb-yes, ltb-no, eqb-yes, eqb-is, says-le, says-lt, says-eq, says-not, says-or, _also_}
+use Rattle.network.proofs.Booleans.{by-test, clash, ltb-yes, ltb-no, eqb-yes, eqb-is, says-le, says-lt, says-eq, says-not, says-or, _also_, false-exactly}
 use Rattle.network.proofs.BelowLaws.{all-at, all-make, any-at, any-make}
 use Rattle.network.proofs.MachineLaws.{subset-is}
 use Rattle.masks.proofs.ByteLaws.{says-among}
@@ -16,7 +16,7 @@ use Rattle.plan.specs.declared.Plan.{Plan}
 use Rattle.plan.specs.declared.Refusal.the-variants as refusal
 use Rattle.plan.specs.Refusal.{refusalNumber}
 use Rattle.plan.specs.Plan.{zeroLetter, zeroConstraint, letterAt, constraintAt, signed}
-use Rattle.plan.specs.WellFormed.{InBounds, FineConstraint, WellFormed}
+use Rattle.plan.specs.WellFormed.{InBounds, FineConstraint, FineHead, FineLetters, FineConstraints, WellFormed}
 use Rattle.judge.specs.Judge.{headFine, takenBefore, letterFine, letterUnused, letterEntry, lettersFine, boundFine, constraintFine, constraintUnused, constraintEntry, constraintsFine, planFault}
 use Rattle.judge.proofs.JudgeLaws.{headOf, head-fault, letters-fault, constraints-fault, no-fault}
 
@@ -123,40 +123,6 @@ module _ (p : Plan) where
   by-fault f2 f3 f4 f0 =
       by-test (headOf p) (λ h. by-test (lettersFine p) (λ l. by-test (constraintsFine p) (f0 h l) (f4 h l)) (f3 h)) f2
 
-  pub head-refused-exactly : (planFault p ≡ refusalNumber refusal.Head) ↔ (headFine (p .horizon) (p .points) (p .letters) (p .constraints) ≡ false)
-  head-refused-exactly = (
-    λ e. by-fault
-        (λ h. h)
-        (λ h l. absurd (omega (arith, letters-fault p h l)))
-        (λ h l c. absurd (omega (arith, constraints-fault p h l c)))
-        (λ h l c. absurd (omega (arith, no-fault p h l c))),
-    head-fault p,
-  )
-
-  pub letters-refused-exactly :
-      (planFault p ≡ refusalNumber refusal.Letters) ↔ ((headFine (p .horizon) (p .points) (p .letters) (p .constraints) ≡ true)
-      × (lettersFine p ≡ false))
-  letters-refused-exactly = (
-    λ e. by-fault
-        (λ h. absurd (omega (arith, head-fault p h)))
-        (λ h l. (h, l))
-        (λ h l c. absurd (omega (arith, constraints-fault p h l c)))
-        (λ h l c. absurd (omega (arith, no-fault p h l c))),
-    λ h. letters-fault p (h .0) (h .1),
-  )
-
-  pub constraints-refused-exactly :
-      (planFault p ≡ refusalNumber refusal.Constraints) ↔ ((headFine (p .horizon) (p .points) (p .letters) (p .constraints) ≡ true)
-      × (lettersFine p ≡ true) × (constraintsFine p ≡ false))
-  constraints-refused-exactly = (
-    λ e. by-fault
-        (λ h. absurd (omega (arith, head-fault p h)))
-        (λ h l. absurd (omega (arith, letters-fault p h l)))
-        (λ h l c. (h, l, c))
-        (λ h l c. absurd (omega (arith, no-fault p h l c))),
-    λ h. constraints-fault p (h .0) (h .1) (h .2),
-  )
-
   pub no-fault-is : planFault p ≡ 0 → (headOf p ≡ true) × (lettersFine p ≡ true) × (constraintsFine p ≡ true)
   no-fault-is e =
       by-fault
@@ -165,64 +131,140 @@ module _ (p : Plan) where
       (λ h l c. absurd (omega (arith, constraints-fault p h l c)))
       (λ h l c. (h, l, c))
 
-  -- ---- well-formed plans
+  -- ---- the parts of a well-formed plan, and the judge's tests of them
+
+  pub head-exactly : (headOf p ≡ true) ↔ FineHead p
+  head-exactly =
+      let says = says-head (p .horizon) (p .points) (p .letters) (p .constraints) in (
+        λ t. let h = says .0 t in
+            record {
+              horizon = h .0 .0 .0 .0 .0;
+              some-point = h .0 .0 .0 .0 .1;
+              points = h .0 .0 .0 .1;
+              letters = h .0 .0 .1;
+              letters-points = h .0 .1;
+              constraints = h .1;
+            },
+        λ h. says .1 (((((h .horizon, h .some-point), h .points), h .letters), h .letters-points), h .constraints),
+      )
 
   -- two letters of which the later is fine have points of their own
   apart : (i j : ℕ) → i < j → takenBefore p j (letterAt p j .point) ≡ false → letterAt p i .point ≡ letterAt p j .point → ⊥
   unfolding takenBefore
   apart i j lt z e = clash (any-make j _ i lt (eqb-yes _ _ e)) z
 
-  well-formed : headOf p ≡ true → lettersFine p ≡ true → constraintsFine p ≡ true → WellFormed p
-  unfolding lettersFine constraintsFine
-  well-formed h l c =
-      let head = says-head (p .horizon) (p .points) (p .letters) (p .constraints) .0 h in
-      let letter : (i : ℕ) → i < 6 → LetterThere p i = λ i lt. says-letter-entry p i .0 (all-at 6 (letterEntry p) l i lt) in
-      let entry : (j : ℕ) → j < 64 → ConstraintThere p j = λ j lt. says-constraint-entry p j .0 (all-at 64 (constraintEntry p) c j lt) in
-      let free : (i : ℕ) → i < p .letters → takenBefore p i (letterAt p i .point) ≡ false = λ i lt. letter i (omega arith) .0 lt .1 in
-      record {
-        horizon = head .0 .0 .0 .0 .0;
-        some-point = head .0 .0 .0 .0 .1;
-        points = head .0 .0 .0 .1;
-        letters = head .0 .0 .1;
-        letters-points = head .0 .1;
-        constraints = head .1;
-        disclosing = λ i lt. letter i (omega arith) .0 lt .0 .0;
-        own-point = λ i j li lj e. by-cases (decLt i j)
-            (λ lt. absurd (apart i j lt (free j lj) e))
-            (λ ge. by-cases (decLt j i) (λ lt. absurd (apart j i lt (free i li) (sym e))) (λ ge′. omega arith));
-        kind = λ i lt. letter i (omega arith) .0 lt .0 .1;
-        unused-letter = λ i ge lt. letter i lt .1 ge;
-        constraint = λ j lt. entry j (omega arith) .0 lt;
-        unused-constraint = λ j ge lt. entry j lt .1 ge;
-      }
-
-  not-taken : WellFormed p → (i : ℕ) → i < p .letters → takenBefore p i (letterAt p i .point) ≡ false
+  not-taken : FineLetters p → (i : ℕ) → i < p .letters → takenBefore p i (letterAt p i .point) ≡ false
   unfolding takenBefore
-  not-taken wf i lt =
+  not-taken h i lt =
       by-test (takenBefore p i (letterAt p i .point))
       (λ y. let r = any-at i _ y in
-      let e = wf .own-point (r .0) i (omega arith) lt (eqb-is _ _ (r .2)) in
+      let e = h .own-point (r .0) i (omega arith) lt (eqb-is _ _ (r .2)) in
       absurd (omega arith))
       (λ z. z)
 
-  fine : WellFormed p → planFault p ≡ 0
-  unfolding lettersFine constraintsFine
-  fine wf =
-      no-fault p
-      (says-head (p .horizon) (p .points) (p .letters) (p .constraints) .1
-      (((((wf .horizon, wf .some-point), wf .points), wf .letters), wf .letters-points), wf .constraints))
-      (all-make 6 (letterEntry p) (λ i lt. says-letter-entry p i .1
-      (λ used. ((wf .disclosing i used, wf .kind i used), not-taken wf i used), λ past. wf .unused-letter i past lt)))
-      (all-make 64 (constraintEntry p) (λ j lt. says-constraint-entry p j .1 (wf .constraint j, λ past. wf .unused-constraint j past lt)))
+  pub letters-exactly : FineHead p → (lettersFine p ≡ true) ↔ FineLetters p
+  unfolding lettersFine
+  letters-exactly head =
+      let few = head .letters in (
+        λ t. let letter : (i : ℕ) → i < 6 → LetterThere p i = λ i lt. says-letter-entry p i .0 (all-at 6 (letterEntry p) t i lt) in
+            let free : (i : ℕ) → i < p .letters → takenBefore p i (letterAt p i .point) ≡ false = λ i lt. letter i (omega arith) .0 lt .1 in
+            record {
+              disclosing = λ i lt. letter i (omega arith) .0 lt .0 .0;
+              own-point = λ i j li lj e. by-cases (decLt i j)
+                  (λ lt. absurd (apart i j lt (free j lj) e))
+                  (λ ge. by-cases (decLt j i) (λ lt. absurd (apart j i lt (free i li) (sym e))) (λ ge′. omega arith));
+              kind = λ i lt. letter i (omega arith) .0 lt .0 .1;
+              unused-letter = λ i ge lt. letter i lt .1 ge;
+            },
+        λ h. all-make 6 (letterEntry p) (λ i lt. says-letter-entry p i .1
+            (λ used. ((h .disclosing i used, h .kind i used), not-taken h i used), λ past. h .unused-letter i past lt)),
+      )
 
-pub fine-exactly : (p : Plan) → (planFault p ≡ 0) ↔ WellFormed p
-fine-exactly p = (λ e. let r = no-fault-is p e in well-formed p (r .0) (r .1) (r .2), fine p)
+  pub constraints-exactly : FineHead p → (constraintsFine p ≡ true) ↔ FineConstraints p
+  unfolding constraintsFine
+  constraints-exactly head =
+      let few = head .constraints in (
+        λ t. let entry : (j : ℕ) → j < 64 → ConstraintThere p j = λ j lt. says-constraint-entry p j .0 (all-at 64 (constraintEntry p) t j lt) in
+            record { constraint = λ j lt. entry j (omega arith) .0 lt; unused-constraint = λ j ge lt. entry j lt .1 ge },
+        λ h. all-make 64 (constraintEntry p) (λ j lt. says-constraint-entry p j .1 (h .constraint j, λ past. h .unused-constraint j past lt)),
+      )
 
--- every other plan has a fault of the head, the letters or the constraints
-pub two-to-four : (p : Plan) → ¬ WellFormed p → (2 ≤ planFault p) × (planFault p ≤ 4)
-two-to-four p n =
-    by-fault p
-    (λ h. let f = head-fault p h in (omega arith, omega arith))
-    (λ h l. let f = letters-fault p h l in (omega arith, omega arith))
-    (λ h l c. let f = constraints-fault p h l c in (omega arith, omega arith))
-    (λ h l c. absurd (n (well-formed p h l c)))
+  -- what was found, in the words of the definition: each part is judged only behind those before it
+  by-part :
+      {C : Type 0} → (¬ FineHead p → C) → (FineHead p → ¬ FineLetters p → C) → (FineHead p → FineLetters p → ¬ FineConstraints p → C) →
+      (WellFormed p → C) → C
+  by-part f2 f3 f4 f0 =
+      by-fault
+      (λ h. f2 (false-exactly head-exactly .0 h))
+      (λ h l. let head = head-exactly .0 h in f3 head (false-exactly (letters-exactly head) .0 l))
+      (λ h l c. let head = head-exactly .0 h in
+      f4 head (letters-exactly head .0 l) (false-exactly (constraints-exactly head) .0 c))
+      (λ h l c. let head = head-exactly .0 h in
+      f0 (record { head = head; letters = letters-exactly head .0 l; constraints = constraints-exactly head .0 c }))
+
+  -- ---- and its fault
+
+  no-head : ¬ FineHead p → planFault p ≡ refusalNumber refusal.Head
+  no-head n = head-fault p (false-exactly head-exactly .1 n)
+
+  no-letters : FineHead p → ¬ FineLetters p → planFault p ≡ refusalNumber refusal.Letters
+  no-letters h n = letters-fault p (head-exactly .1 h) (false-exactly (letters-exactly h) .1 n)
+
+  no-constraints : FineHead p → FineLetters p → ¬ FineConstraints p → planFault p ≡ refusalNumber refusal.Constraints
+  no-constraints h l n =
+      constraints-fault p (head-exactly .1 h) (letters-exactly h .1 l) (false-exactly (constraints-exactly h) .1 n)
+
+  none : WellFormed p → planFault p ≡ 0
+  none wf =
+      let h = wf .head in
+      no-fault p (head-exactly .1 h) (letters-exactly h .1 (wf .letters)) (constraints-exactly h .1 (wf .constraints))
+
+  pub head-refused-exactly : (planFault p ≡ refusalNumber refusal.Head) ↔ (¬ FineHead p)
+  head-refused-exactly = (
+    λ e. by-part
+        (λ n. n)
+        (λ h n. absurd (omega (arith, no-letters h n)))
+        (λ h l n. absurd (omega (arith, no-constraints h l n)))
+        (λ wf. absurd (omega (arith, none wf))),
+    no-head,
+  )
+
+  pub letters-refused-exactly : (planFault p ≡ refusalNumber refusal.Letters) ↔ (FineHead p × ¬ FineLetters p)
+  letters-refused-exactly = (
+    λ e. by-part
+        (λ n. absurd (omega (arith, no-head n)))
+        (λ h n. (h, n))
+        (λ h l n. absurd (omega (arith, no-constraints h l n)))
+        (λ wf. absurd (omega (arith, none wf))),
+    λ f. no-letters (f .0) (f .1),
+  )
+
+  pub constraints-refused-exactly :
+      (planFault p ≡ refusalNumber refusal.Constraints) ↔ (FineHead p × FineLetters p × ¬ FineConstraints p)
+  constraints-refused-exactly = (
+    λ e. by-part
+        (λ n. absurd (omega (arith, no-head n)))
+        (λ h n. absurd (omega (arith, no-letters h n)))
+        (λ h l n. (h, l, n))
+        (λ wf. absurd (omega (arith, none wf))),
+    λ f. no-constraints (f .0) (f .1) (f .2),
+  )
+
+  pub fine-exactly : (planFault p ≡ 0) ↔ WellFormed p
+  fine-exactly = (
+    λ e. by-part
+        (λ n. absurd (omega (arith, no-head n)))
+        (λ h n. absurd (omega (arith, no-letters h n)))
+        (λ h l n. absurd (omega (arith, no-constraints h l n)))
+        (λ wf. wf),
+    none,
+  )
+
+  -- every other plan has a fault of the head, the letters or the constraints
+  pub two-to-four : ¬ WellFormed p → (2 ≤ planFault p) × (planFault p ≤ 4)
+  two-to-four n =
+      by-part
+      (λ f. let e = no-head f in (omega arith, omega arith))
+      (λ h f. let e = no-letters h f in (omega arith, omega arith))
+      (λ h l f. let e = no-constraints h l f in (omega arith, omega arith))
+      (λ wf. absurd (n wf))

@@ -88,7 +88,7 @@ module _ (p : Plan) (wf : WellFormed p) (at : Position) (ok : Proper p at) (soon
   -- ---- the masks of a legal move
 
   left-byte : (x : ℕ) → bit (at .left) x ≡ true → x < 8
-  left-byte x y = let lt = ok .points-left x y in let few = wf .points in omega arith
+  left-byte x y = let lt = ok .points-left x y in let few = wf .head .points in omega arith
 
   settled-byte : (points l : ℕ) → bit (settledBy p points) l ≡ true → l < 8
   settled-byte points l y = let lt = in-mask 6 _ l y .0 in omega arith
@@ -127,7 +127,7 @@ module _ (p : Plan) (wf : WellFormed p) (at : Position) (ok : Proper p at) (soon
   legal-bytes : (v : Node) → Legal net s (moveOf v) → Bytes v
   legal-bytes v lg =
       record {
-        slot-small = let w = lg .within in let h = wf .horizon in omega arith;
+        slot-small = let w = lg .within in let h = wf .head .horizon in omega arith;
         points-small = bits-lt 8 (v .points) (λ x y. left-byte x (lg .not-yet x y));
         choices-small = bits-lt 8 (v .choices) (λ l y. settled-byte (v .points) l (choices-settled p wf s (moveOf v) lg l y));
       }

@@ -22,9 +22,9 @@ each-listed P (suc n) f h = (h zero (omega arith), each-listed P n (λ i. f (suc
 pub network-of-well-formed : (p : Plan) → WellFormed p → IsNetwork (networkOf p)
 network-of-well-formed p wf =
     record {
-      letters-in-a-byte = let h = wf .letters in omega arith;
-      disclosed = wf .disclosing;
-      own = wf .own-point;
-      in-network = each-listed (InNetwork (networkOf p)) (p .constraints) _ (λ j lt. let f = wf .constraint j lt in
+      letters-in-a-byte = let h = wf .head .letters in omega arith;
+      disclosed = wf .letters .disclosing;
+      own = wf .letters .own-point;
+      in-network = each-listed (InNetwork (networkOf p)) (p .constraints) _ (λ j lt. let f = wf .constraints .constraint j lt in
           record { from-point = f .from-point; to-point = f .to-point; over-letters = f .need-letters });
     }

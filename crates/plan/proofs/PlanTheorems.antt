@@ -16,4 +16,4 @@ module _ (p : Plan) (wf : WellFormed p) where
 
   -- theorem 4 with the numbers of document 01
   pub at-most-191 : (t : Tree) → Shaped (networkOf p) t → nodes (networkOf p) t ≤ 191
-  at-most-191 t sd = theorems.at-most-191 (networkOf p) is-network t sd (wf .points) (wf .letters)
+  at-most-191 t sd = theorems.at-most-191 (networkOf p) is-network t sd (wf .head .points) (wf .head .letters)

@@ -88,16 +88,16 @@ module _ (p : Plan) where
   unfolding lettersFine letterEntry constraintsFine constraintEntry
   parts-of wf six sixty-four =
       let (head, letters, constraints) = no-fault-is p (fine-exactly p .1 wf) in
-      let few = wf .letters in
-      let some = wf .constraints in
+      let few = wf .head .letters in
+      let some = wf .head .constraints in
       record {
         head = head;
         letter = λ i lt. entry-used i (p .letters) _ (letterUnused (letterAt p i)) lt
             (all-at 6 (letterEntry p) letters i (omega arith));
-        no-letter = unused-past zeroLetter (p .letters) 6 (p .letter) six (wf .unused-letter);
+        no-letter = unused-past zeroLetter (p .letters) 6 (p .letter) six (wf .letters .unused-letter);
         constraint = λ j lt. entry-used j (p .constraints) _ (constraintUnused (constraintAt p j)) lt
             (all-at 64 (constraintEntry p) constraints j (omega arith));
-        no-constraint = unused-past zeroConstraint (p .constraints) 64 (p .constraint) sixty-four (wf .unused-constraint);
+        no-constraint = unused-past zeroConstraint (p .constraints) 64 (p .constraint) sixty-four (wf .constraints .unused-constraint);
       }
 
   pub well-formed-of : Parts p → WellFormed p

@@ -66,7 +66,7 @@ cut-refused p wf t r e some fine =
 
 -- the longest plan text has 1,025 bytes
 pub at-most-1025 : (p : Plan) → WellFormed p → length (planText p) ≤ 1025
-at-most-1025 p wf = omega (arith, plan-length p, wf .letters, wf .constraints)
+at-most-1025 p wf = omega (arith, plan-length p, wf .head .letters, wf .head .constraints)
 
 pub reached-1025 : (p : Plan) × WellFormed p × (length (planText p) ≡ 1025)
 reached-1025 = (longest, longest-fine, plan-length longest)

@@ -86,19 +86,19 @@ constraint-back p j c r each h =
 -- all values of a well-formed plan are bytes
 module _ (p : Plan) (wf : WellFormed p) where
   pub head-bytes : EachByte (1 ∷ p .horizon ∷ p .points ∷ p .letters ∷ p .constraints ∷ [])
-  head-bytes = omega (arith, wf .horizon, wf .points, wf .letters, wf .constraints)
+  head-bytes = omega (arith, wf .head .horizon, wf .head .points, wf .head .letters, wf .head .constraints)
 
   letter-bytes : (i : ℕ) → i < p .letters → EachByte (2 ∷ i ∷ letterAt p i .point ∷ letterAt p i .kind ∷ [])
-  letter-bytes i lt = omega (arith, wf .points, wf .letters, wf .disclosing i lt, wf .kind i lt)
+  letter-bytes i lt = omega (arith, wf .head .points, wf .head .letters, wf .letters .disclosing i lt, wf .letters .kind i lt)
 
   constraint-bytes :
       (c : Constraint) → FineConstraint p c →
       EachByte (3 ∷ c .from ∷ c .to ∷ c .bound / 256 ∷ c .bound % 256 ∷ c .need ∷ c .truth ∷ [])
   constraint-bytes c f =
-      let masks : 2 ^ p .letters ≤ 2 ^ 6 = pow-mono {j = 6} (wf .letters) in
+      let masks : 2 ^ p .letters ≤ 2 ^ 6 = pow-mono {j = 6} (wf .head .letters) in
       let need = bits-lt (p .letters) (c .need) (f .need-letters) in
       let truth = bits-lt (p .letters) (c .truth) (λ l y. f .need-letters l (f .truth-needed l y)) in
-      omega (arith, wf .points, f .from-point, f .to-point, f .two-bytes)
+      omega (arith, wf .head .points, f .from-point, f .to-point, f .two-bytes)
 
 module _ (p : Plan) (wf : WellFormed p) (parts : Parts p) where
   head-goes : (r : List ℕ) → readPlan (headText p ++ r) ≡ readLetters (blank p) r
@@ -110,7 +110,7 @@ module _ (p : Plan) (wf : WellFormed p) (parts : Parts p) where
       readLetters (blank p) (lettersText p ++ r) ≡ readConstraints (withConstraints p (replicate 64 zeroConstraint)) r
   letters-go six r =
       let h = withConstraints p (replicate 64 zeroConstraint) in
-      fill-back readLetter 4 readConstraints (withLetters h) zeroLetter 6 letterText (p .letter) (p .letters) r six (wf .letters)
+      fill-back readLetter 4 readConstraints (withLetters h) zeroLetter 6 letterText (p .letter) (p .letters) r six (wf .head .letters)
       (parts .no-letter)
       (λ i lt ls same u. letter-back (withLetters h ls) i (letterAt p i) u (letter-bytes p wf i lt)
       (letter-earlier p (withLetters h ls) i (letterAt p i) refl (λ k l. sym (same k l)) (parts .letter i lt)))
@@ -121,9 +121,9 @@ module _ (p : Plan) (wf : WellFormed p) (parts : Parts p) where
   unfolding constraintFine
   constraints-go sixty-four =
       fill-back readConstraint 7 (atEnd zeroPlan refusal.PlanText) (withConstraints p) zeroConstraint 64 (λ j. constraintText)
-      (p .constraint) (p .constraints) [] sixty-four (wf .constraints) (parts .no-constraint)
+      (p .constraint) (p .constraints) [] sixty-four (wf .head .constraints) (parts .no-constraint)
       (λ j lt cs same u. let c = constraintAt p j in
-      constraint-back (withConstraints p cs) j c u (constraint-bytes p wf c (wf .constraint j lt)) (parts .constraint j lt))
+      constraint-back (withConstraints p cs) j c u (constraint-bytes p wf c (wf .constraints .constraint j lt)) (parts .constraint j lt))
       (λ j. refl)
       ∙ at-end zeroPlan refusal.PlanText p
 

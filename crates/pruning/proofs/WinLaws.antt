@@ -79,12 +79,12 @@ module _ (p : Plan) (wf : WellFormed p) (at : Position) where
 
   unheard-is : (l : ℕ) → bit (v .unheard) l ≡ conditionAt net (at .left) l
   unheard-is =
-      letters-bit _ (λ l y. let few = wf .letters in
+      letters-bit _ (λ l y. let few = wf .head .letters in
       let lt = condition-lt net l (and-left (condition net l) (bit (at .left) (net .disclosing l)) y) in omega arith)
 
   settled-by-is : (points l : ℕ) → bit (settledBy p points) l ≡ decisionAt net points l
   settled-by-is points =
-      letters-bit _ (λ l y. let few = wf .letters in
+      letters-bit _ (λ l y. let few = wf .head .letters in
       let lt = decision-lt net l (and-left (decision net l) (bit points (net .disclosing l)) y) in omega arith)
 
   unheard-byte : v .unheard < 256
@@ -103,10 +103,10 @@ module _ (p : Plan) (wf : WellFormed p) (at : Position) where
 
   disclosing-is : (q : ℕ) → bit (v .unheard) q ≡ true → getD (v .disclosing) q 0 % 8 ≡ net .disclosing q
   disclosing-is q y =
-      let letters = wf .letters in
-      let points = wf .points in
+      let letters = wf .head .letters in
+      let points = wf .head .points in
       let lt = condition-lt net q (and-left (condition net q) (bit (at .left) (net .disclosing q)) (sym (unheard-is q) ∙ y)) in
-      let point = wf .disclosing q lt in
+      let point = wf .letters .disclosing q lt in
       rw (get-listed 0 6 (λ l. letterAt p l .point) q (omega arith)) (mod-eq-of-lt (omega arith))
 
   -- a decision not yet made that is not free at x is the one that x discloses
@@ -131,7 +131,7 @@ module _ (p : Plan) (wf : WellFormed p) (at : Position) where
     g =
         record {
           is-network = network-of-well-formed p wf;
-          few = wf .letters;
+          few = wf .head .letters;
           state = st;
           tree = t;
           sound = sd;
@@ -144,14 +144,14 @@ module _ (p : Plan) (wf : WellFormed p) (at : Position) where
 
     from : (s x : ℕ) → x < p .points → getD (v .low) x 0 ≤ time s x
     from s x lt =
-        let few = wf .points in
+        let few = wf .head .points in
         subst (λ (n : ℕ). n ≤ time s x) (sym (slots-after-is (at .left) (at .earliest % 256) x (omega arith))) (by-test (bit (at .left) x)
         (λ y. let a = slot-ahead g s x lt y .0 in let b = mod-le (at .earliest) 256 in rw y (omega arith))
         (λ z. rw (z, slot-past g s x lt z) (omega arith)))
 
     upto : (s x : ℕ) → x < p .points → time s x ≤ getD (v .cap) x 0
     upto s x lt =
-        let few = wf .points in
+        let few = wf .head .points in
         subst (λ (n : ℕ). time s x ≤ n) (sym (slots-after-is (at .left) (p .horizon) x (omega arith))) (by-test (bit (at .left) x)
         (λ y. rw y (slot-ahead g s x lt y .1))
         (λ z. rw (z, slot-past g s x lt z) (omega arith)))
@@ -183,7 +183,7 @@ module _ (p : Plan) (wf : WellFormed p) (at : Position) where
         ⊎ ((d : ℕ) × Within (free v x) d × (settle g (flipped v s q x d) ≡ flipped v s q x d) × (time (flipped v s q x d) x ≡ time s x))
     flip s q x on yq yx =
         let lt = ok .points-left x yx in
-        let few = wf .points in
+        let few = wf .head .points in
         let f = bitXor s (2 ^ q) in
         let r = settle g f in
         ⊎-elim
@@ -225,7 +225,7 @@ module _ (p : Plan) (wf : WellFormed p) (at : Position) where
         settle g (setTo s (v .undecided) d) ≡ setTo s (v .undecided) d → setTo s (v .undecided) d ≡ s
     only s d on w on′ =
         on-only g (setTo s (v .undecided) d) s on′ on (λ l y.
-        let letters = wf .letters in
+        let letters = wf .head .letters in
         let k = unheard-condition g l y in
         let lt = condition-lt net l k in
         let z : bit (v .undecided) l ≡ false
@@ -242,19 +242,19 @@ module _ (p : Plan) (wf : WellFormed p) (at : Position) where
           is-network = network-of-well-formed p wf;
           constraints = sym say;
           points = refl;
-          few-points = wf .points;
-          some-point = wf .some-point;
+          few-points = wf .head .points;
+          some-point = wf .head .some-point;
           settled = settle g;
           time = time;
           from = λ s x on lt. from s x lt;
           upto = λ s x on lt. upto s x lt;
-          small = λ x lt. small x (let few = wf .points in omega arith);
+          small = λ x lt. small x (let few = wf .head .points in omega arith);
           kept = on-keeps g;
           flip = flip;
           left-point = ok .points-left;
           disclosing-point = λ q y.
               let lt = condition-lt net q (and-left (condition net q) (bit (at .left) (net .disclosing q)) (sym (unheard-is q) ∙ y)) in
-              rw (disclosing-is q y) (wf .disclosing q lt);
+              rw (disclosing-is q y) (wf .letters .disclosing q lt);
           known = known;
           some = some;
           only = only;

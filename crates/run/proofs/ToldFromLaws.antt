@@ -123,7 +123,7 @@ module _ (p : Plan) (told : Told) (at : Position) (rest : List ℕ) (o : ℕ) (o
     parts =
         apart (below p at v) rest (2 ^ count 8 (bit (heardBy p (v .points)))) (w .nodes) (w .kept)
         (sym (node-here p at rest v o walk-here .read) ∙ w .sound) (number p at rest v o walk-here)
-        (rw (submasks-are-outcomes p (wf .letters) (moveOf v)) (number-lt p (wf .letters) (moveOf v) o))
+        (rw (submasks-are-outcomes p (wf .head .letters) (moveOf v)) (number-lt p (wf .head .letters) (moveOf v) o))
 
     before-nodes : before ≡ parts .nodes
     before-nodes = before-is p at rest v o walk-here ∙ ap nodesFound (parts .before)

@@ -81,8 +81,8 @@ module _ (p : Plan) (wf : WellFormed p) where
     subtree-there =
         let piece : ℕ → List ℕ = λ i. treeBytes net (next (outcomeAt net m i)) in
         let size : ℕ → ℕ = λ i. nodes net (next (outcomeAt net m i)) in
-        let k = outcomeNumber p (wf .letters) m o in
-        let split = join-at (outcomes net m) piece k (number-lt p (wf .letters) m o) in
+        let k = outcomeNumber p (wf .head .letters) m o in
+        let split = join-at (outcomes net m) piece k (number-lt p (wf .head .letters) m o) in
         let behind = piece k ++ (split .0 ++ rest) in
         let parts : front ≡ nodeBytes (nodeOf m) ++ (joinBelow k piece ++ behind)
         = ap (λ (x : List ℕ). nodeBytes (nodeOf m) ++ x)
@@ -104,7 +104,7 @@ module _ (p : Plan) (wf : WellFormed p) where
           ap (fromNode front) before
               ∙ ap (drop (3 * suc (sumBelow k size))) parts
               ∙ drop-at (nodeBytes (nodeOf m) ++ joinBelow k piece) behind (3 * suc (sumBelow k size)) long
-              ∙ ap (λ (x : ℕ). treeBytes net (next x) ++ (split .0 ++ rest)) (number-is p (wf .letters) m o ok),
+              ∙ ap (λ (x : ℕ). treeBytes net (next x) ++ (split .0 ++ rest)) (number-is p (wf .head .letters) m o ok),
         )
 
   -- ---- told at masks, by the bytes and by the tree
@@ -120,7 +120,7 @@ module _ (p : Plan) (wf : WellFormed p) where
   told-is (node m next) s rest (o ∷ os) sd in-s =
       rw (node-bytes-front net m next rest, some-left s m (sd .0))
       (by-test (mayReport p m o)
-      (λ y. let ok = may-is p (wf .letters) m o .0 y in
+      (λ y. let ok = may-is p (wf .head .letters) m o .0 y in
       let there = subtree-there m next s sd rest o ok in
       rw y
       (ap (λ (bs : List ℕ). toldFrom p (after net s m o) bs os) (there .1)
@@ -154,7 +154,7 @@ module _ (p : Plan) (wf : WellFormed p) where
   fewer-masks (node k next) s [] m sd e = let f = fewer-left net s k 0 (sd .0) in omega arith
   fewer-masks (node k next) s (o ∷ os) m sd e =
       by-test (mayReport p k o)
-      (λ y. let ok = may-is p (wf .letters) k o .0 y in
+      (λ y. let ok = may-is p (wf .head .letters) k o .0 y in
       let r = fewer-masks (next o) (after net s k o) os m (sd .1 o ok) (rw y at e) in
       let f = fewer-left net s k o (sd .0) in
       omega arith)
@@ -197,5 +197,5 @@ room-for-one p bs h m eight e =
     let fewer = fewer-masks p wf (a .tree) (start net) (reportsIn h) m (a .described .shaped) (a .at-reports) in
     let long : length (reportsIn h) ≡ h .count = length-take-le (h .count) (h .masks) (omega arith) in
     let points = count-le (p .points) (bit (start net .left)) in
-    let few = wf .points in
+    let few = wf .head .points in
     omega (arith, fewer, long, points, few)

@@ -81,7 +81,7 @@ module _ (p : Plan) (at : Position) (bs : List ℕ) (v : Node) (o : ℕ) (here :
   is-legal = legal-exactly p (here .wf) (stateOf p at) (inside-is p (here .wf) at (here .ok)) (moveOf v) .0 (here .legal)
 
   pub is-outcome : Outcome (networkOf p) (moveOf v) o
-  is-outcome = may-is p (here .wf .letters) (moveOf v) o .0 (here .may)
+  is-outcome = may-is p (here .wf .head .letters) (moveOf v) o .0 (here .may)
 
   -- the same of the node at the front
   pub front-legal : isLegal p (stateOf p at) (moveOf (nodeAt bs 0)) ≡ true
@@ -99,10 +99,10 @@ module _ (p : Plan) (at : Position) (bs : List ℕ) (v : Node) (o : ℕ) (here :
 
   -- the number of the outcome that is reported, and the outcome numbered so, as the code numbers them
   abbrev pub number : ℕ
-  number = outcomeNumber p (here .wf .letters) (moveOf v) o
+  number = outcomeNumber p (here .wf .head .letters) (moveOf v) o
 
   pub numbered-own : submask 8 (bit (heardBy p (v .points))) number ≡ o
-  numbered-own = numbered-is-outcome p (here .wf .letters) (moveOf v) number ∙ number-is p (here .wf .letters) (moveOf v) o is-outcome
+  numbered-own = numbered-is-outcome p (here .wf .head .letters) (moveOf v) number ∙ number-is p (here .wf .head .letters) (moveOf v) o is-outcome
 
   -- the definition, at a position
   pub before-is : nodesBefore p (stateOf p at) bs o ≡ nodesFound (withSubtrees (below p at v) bs number)
@@ -132,7 +132,7 @@ module _ (p : Plan) (at : Position) (bs : List ℕ) (v : Node) (o : ℕ) (here :
         absurd (ne (r .is ∙ ap (submask 8 (bit (heardBy p (v .points)))) e ∙ numbered-own)))
 
     pub pass-small : ¬ (outcome ≡ o) → k < 64
-    pass-small ne = let small = number-small p (here .wf .letters) (moveOf v) o in let lt = pass-less ne in omega arith
+    pass-small ne = let small = number-small p (here .wf .head .letters) (moveOf v) o in let lt = pass-less ne in omega arith
 
     -- its subtree lies within the bytes
     pub pass-fits : (m : ℕ) (b : Bool) → below p at v k (fromNode bs n) ≡ checked.Sound m b → 3 * (n + m) ≤ length bs
@@ -162,9 +162,9 @@ module _ (p : Plan) (at : Position) (bs : List ℕ) (v : Node) (o : ℕ) (here :
     pub pass-end : outcome ≡ o → n ≡ nodesBefore p (stateOf p at) bs o
     pass-end e =
         let w = r .within in
-        let lt = number-lt p (here .wf .letters) (moveOf v) o in
+        let lt = number-lt p (here .wf .head .letters) (moveOf v) o in
         let is-k : number ≡ k
         = ap (rank (p .letters) (hears (networkOf p) (moveOf v)))
-        (sym e ∙ r .is ∙ numbered-is-outcome p (here .wf .letters) (moveOf v) k)
+        (sym e ∙ r .is ∙ numbered-is-outcome p (here .wf .head .letters) (moveOf v) k)
         ∙ rank-submask (p .letters) (hears (networkOf p) (moveOf v)) k (omega arith) in
         sym (before-is ∙ rw (is-k, r .so-far))

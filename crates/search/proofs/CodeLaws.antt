@@ -38,7 +38,7 @@ use Rattle.search.proofs.SearchTheorems.{leaves-tree, hopeless-leaves, 
 
 -- the first 573 bytes are room enough for a tree from the start
 pub start-fits : (p : Plan) → WellFormed p → 3 * most (networkOf p) (start (networkOf p)) ≤ mostBytes
-start-fits p wf = let r = start-room (networkOf p) (is-network p wf) (wf .points) (wf .letters) in omega arith
+start-fits p wf = let r = start-room (networkOf p) (is-network p wf) (wf .head .points) (wf .head .letters) in omega arith
 
 -- what the call says and what it leaves
 abbrev pub Said : Plan → List ℕ → Answer ℕ → List ℕ → Type 0

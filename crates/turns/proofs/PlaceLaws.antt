@@ -133,7 +133,7 @@ module _ (p : Plan) (wf : WellFormed p) (at : Position) (ok : Proper p at) where
         (n : ℕ) (all : n ≡ 2 ^ count 8 (bit (heardBy p (v .points)))) (ys : List ℕ) (same : length ys ≡ length xs) (sum k : ℕ)
         (a : Answering p at v xs ys sum k) where
       outcomes-are : n ≡ outcomes (networkOf p) (moveOf v)
-      outcomes-are = all ∙ submasks-are-outcomes p (wf .letters) (moveOf v)
+      outcomes-are = all ∙ submasks-are-outcomes p (wf .head .letters) (moveOf v)
 
       pub answered-all : ¬ (k < n) → WorldAt p at v (turn.Won sum) xs ys
       answered-all last = turns.answered-all (networkOf p) s (moveOf v) xs ys sum k a lg (λ lt. last (omega (arith, outcomes-are)))

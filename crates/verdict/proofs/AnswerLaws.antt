@@ -140,7 +140,7 @@ module _ (p : Plan) where
 
   -- what is said under fixed outcomes decides
   pub decides : WellFormed p → (s : Scenario) → Decides (networkOf p) s (verdictOf (networkOf p) s)
-  decides wf = verdict-decides (networkOf p) (is-network p wf) (wf .some-point) (wf .points)
+  decides wf = verdict-decides (networkOf p) (is-network p wf) (wf .head .some-point) (wf .head .points)
 
   module _ (m : ℕ) where
     -- under a mask of the plan's letters it is the answer

@@ -14,7 +14,7 @@ lost-by-requires : tie.Need-lost-by-requires
 lost-by-requires c κs = search needs
 
 returns : tie.Need-returns
-returns c wf = c .lost-by .ensures _ (sym (c .before .outline-of .ensures)) (c .before .before .before .rows-of .ensures (wf .constraints)) wf
+returns c wf = c .lost-by .ensures _ (sym (c .before .outline-of .ensures)) (c .before .before .before .rows-of .ensures (wf .head .constraints)) wf
 
 pub lost-spec : {M : Type 1} → statement M
 lost-spec = tie.close (tie.spec rows-of-requires outline-of-requires lost-by-requires returns)

@@ -76,7 +76,7 @@ returns c =
     let proper : Proper (a .plan) (c .before .before .before .after .result)
     = rw (is-next (c .before .before .before)) (next-proper (a .plan) wf (a .at) ok (a .v) lg k) in
     let gone : ¬ CanBeWon (networkOf (a .plan)) (stateOf (a .plan) (c .before .before .before .after .result))
-    = test .ensures (a .plan) (sym outline) (said (wf .constraints)) wf proper yes in
+    = test .ensures (a .plan) (sym outline) (said (wf .head .constraints)) wf proper yes in
     move-wins-nothing (a .plan) wf (a .at) ok (long s) (a .v) lg k (rw (is-next (c .before .before .before)) at gone)
 
 add-k : tie.Need-add-k Inv-loop μ-loop

@@ -36,7 +36,7 @@ returns c wf ok =
     = c .before .before .before .before .are-slots .ensures (c .before .before .before .if1 .taken) in
     let below : (w : Win (seen .result) (rows .result)) (s : ℕ) → w .settled s ≡ s → Below w s (c .soonest .result)
     = c .soonest .ensures in
-    table-timely (a .plan) wf (a .at) ok (rw is at small) (rows .result) (rows .ensures (wf .constraints)) (c .soonest .result) (rw is at below)
+    table-timely (a .plan) wf (a .at) ok (rw is at small) (rows .result) (rows .ensures (wf .head .constraints)) (c .soonest .result) (rw is at below)
 
 returns-2 : tie.Need-returns-2
 returns-2 c wf ok m w x y = subst (λ (n : ℕ). n ≤ m .slot) (sym (all-same {E = ℕ} 8 0 x)) zero-le

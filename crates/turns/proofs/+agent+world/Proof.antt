@@ -455,7 +455,7 @@ world-loop-again t c =
       same-len-mid (3 * l .count) (length (l .buf) - 3 * l .count) (l .buf) (r .last .1 .1 .0) (r .kept .1 .1 .0) ∙ l .inv .0,
       at-place.answered-next (a .plan) (s .pre .1 .0) (a .at) (s .pre .1 .1) (a .v) (s .pre .1 .2) (a .buf .now) (s .pre .1 .3) _ all
           (l .buf) (l .inv .0) (l .count) (l .k) (l .inv .1)
-          (omega arith) (world-long t s) _ (world-next t (c .before .before .before .before .before .before .before)) _ _ (world-won t c),
+          (omega (arith, c .before .before .before .before .before .before .before .before .before .loop-test .taken)) (world-long t s) _ (world-next t (c .before .before .before .before .before .before .before)) _ _ (world-won t c),
     )
 
 world-same-length-2 : (t : ℕ) → world-lts.Need-same-length-2 (world-calls t) (world-at t) world.Post world-Inv-loop world-μ-loop

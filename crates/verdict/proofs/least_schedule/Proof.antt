@@ -55,7 +55,7 @@ returns-2 c =
 decide-requires : tie.Need-decide-requires
 decide-requires c κs =
     let wf : WellFormed (c .before .before .before .before .before .args .plan) = fine-exactly (c .before .before .before .before .before .args .plan) .0 (sym (no-fault (c .before .before))) in
-    (wf .horizon, wf .constraints)
+    (wf .head .horizon, wf .head .constraints)
 
 returns-3 : tie.Need-returns-3
 returns-3 c =

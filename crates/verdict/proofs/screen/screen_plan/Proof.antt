@@ -31,7 +31,7 @@ no-fault c = sym (ap judgedNumber (c .enum-told .given .1)) ∙ c .before .befor
 all-schedulable-requires : tie.Need-all-schedulable-requires
 all-schedulable-requires c κs =
     let wf : WellFormed (c .before .before .before .args .plan) = fine-exactly (c .before .before .before .args .plan) .0 (sym (no-fault c)) in
-    (wf .horizon, wf .letters, wf .constraints)
+    (wf .head .horizon, wf .head .letters, wf .head .constraints)
 
 returns-2 : tie.Need-returns-2
 returns-2 c =
