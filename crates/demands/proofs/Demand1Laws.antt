@@ -1,7 +1,7 @@
 -- Laws for demand 1: numbers that are among some, faults that come first, buffers that are filled, and what a crew is told. Only the
 -- checker need believe this file.
-use mathlib.Core.Path.{_≡_, refl, _∙_}
-use mathlib.Core.Logic.{inl, inr, by-cases}
+use mathlib.Core.Path.{_≡_, refl, sym, _∙_}
+use mathlib.Core.Logic.{_↔_, inl, inr, by-cases}
 use mathlib.Core.Bool.{Bool, true, false, _&&_, _||_}
 use mathlib.Core.List.{List, [], _∷_}
 use Prim.Native.Nat.{ℕ, zero, suc, _+_, _≤_, _<_}
@@ -9,8 +9,8 @@ use native.Mathlib.Omega.{arith}
 use native.Mathlib.Decide.{decLt}
 use lib.Dec.{leb, eqb}
 use lib.ListN.{length}
-use Rattle.network.specs.Game.{State, after}
-use Rattle.network.proofs.Booleans.{by-test, clash, and-left, and-right, leb-is, eqb-is, eqb-no, differs}
+use Rattle.network.specs.Game.{State, Move, after}
+use Rattle.network.proofs.Booleans.{by-test, clash, and-left, and-right, leb-yes, leb-is, leb-no, eqb-is, eqb-no, differs}
 use Rattle.plan.specs.declared.Plan.{Plan}
 use Rattle.plan.specs.declared.Refusal.{Refusal}
 use Rattle.plan.specs.declared.Refusal.the-variants as refusal
@@ -19,8 +19,10 @@ use Rattle.plan.specs.Answer.{unless, first, answered, filled}
 use Rattle.plan.specs.Plan.{networkOf}
 use Rattle.plan.specs.WellFormed.{WellFormed}
 use Rattle.plan.proofs.AnswerLaws.{unless-is, unless-of, first-none}
+use Rattle.plan.proofs.RefusalLaws.{no-refusal}
 use Rattle.judge.specs.Judge.{planFault}
-use Rattle.judge.proofs.WellFormedLaws.{fine-exactly, two-to-four}
+use Rattle.judge.proofs.JudgeTheorems.{fine-exactly}
+use Rattle.judge.proofs.WellFormedLaws.{two-to-four}
 use Rattle.frame.specs.Texts.{roomFault}
 use Rattle.frame.proofs.WritingLaws.{writes}
 use Rattle.tree.specs.Nodes.{nodeAt, fromNode}
@@ -76,6 +78,45 @@ unfolding OneOf
 unless-one ms b r t =
     let both : List ℕ = 0 ∷ refusalNumber r ∷ [] in one-of-more ms both (unless b r) t (unless-of (OneOf both) b r (inl refl) (inr (inl refl)))
 
+-- a test that fails is refused, and only then
+pub unless-exactly : (b : Bool) (r : Refusal) → (unless b r ≡ refusalNumber r) ↔ (b ≡ false)
+unfolding unless
+unless-exactly b r = (
+  λ e. by-test b (λ y. absurd (no-refusal r (sym e ∙ rw y))) (λ z. z),
+  λ z. rw z,
+)
+
+pub unless-yes : (b : Bool) (r : Refusal) → b ≡ true → unless b r ≡ 0
+unfolding unless
+unless-yes b r y = rw y
+
+pub long-enough : (n k : ℕ) → n ≤ k → unless (leb n k) refusal.Buffer ≡ 0
+long-enough n k le = unless-yes (leb n k) refusal.Buffer (leb-yes n k le)
+
+-- 10 where a length is short of n, before any fault that is not 10
+pub short-exactly : (n k : ℕ) → (unless (leb n k) refusal.Buffer ≡ 10) ↔ (k < n)
+short-exactly n k = (
+  λ e. let no = unless-exactly (leb n k) refusal.Buffer .0 e in
+      by-cases (decLt k n) (λ lt. lt) (λ ge. clash (leb-yes n k (omega arith)) no),
+  λ lt. unless-exactly (leb n k) refusal.Buffer .1 (leb-no n k (λ le. omega arith)),
+)
+
+-- the first of two faults is a: it is the first, or there is none and it is the second
+pub first-exactly : (m a b : ℕ) → ¬ (m ≡ 0) → ¬ (b ≡ m) → (first a b ≡ m) ↔ (a ≡ m)
+unfolding first
+first-exactly m a b some other = (
+  λ e. by-test (eqb a 0) (λ y. absurd (other (rw y at e))) (λ z. rw z at e),
+  λ e. by-test (eqb a 0) (λ y. absurd (some (sym e ∙ eqb-is a 0 y))) (λ z. rw z e),
+)
+
+pub first-zero : (a b : ℕ) → a ≡ 0 → first a b ≡ b
+unfolding first
+first-zero a b e = rw e
+
+pub first-some : (a b : ℕ) → ¬ (a ≡ 0) → first a b ≡ a
+unfolding first
+first-some a b n = rw (eqb-no a 0 n)
+
 -- a plan record is well formed, or its fault is 2, 3 or 4
 pub by-plan : {C : Type 0} (p : Plan) → (WellFormed p → C) → (¬ WellFormed p → OneOf (2 ∷ 3 ∷ 4 ∷ []) (planFault p) → C) → C
 by-plan p fine faulty =
@@ -97,6 +138,10 @@ unfolding filled
 fills n bytes xs room =
     record { has-room = room; front = λ e. rw e; refused = λ ne. rw (eqb-no n 0 ne) }
 
+pub stays : (n : ℕ) (bytes xs : List ℕ) → ¬ (n ≡ 0) → filled n bytes xs ≡ xs
+unfolding filled
+stays n bytes xs some = rw (eqb-no n 0 some)
+
 -- a text that is written, where `fault` is judged before the room
 module _ (fault : ℕ) (text xs : List ℕ) where
   abbrev room : Bool
@@ -105,6 +150,18 @@ module _ (fault : ℕ) (text xs : List ℕ) where
   pub write-one : (ms : List ℕ) → allAmong ms (0 ∷ 10 ∷ []) ≡ true → OneOf ms fault → OneOf ms (writes fault text xs .fault)
   unfolding answered
   write-one ms t one = first-one ms fault (roomFault text xs) one (unless-one ms room refusal.Buffer t)
+
+  -- the fault that comes first, then the room
+  pub write-first : ¬ (fault ≡ 0) → writes fault text xs .fault ≡ fault
+  unfolding answered
+  write-first some = first-some fault (roomFault text xs) some
+
+  pub write-room : fault ≡ 0 → (writes fault text xs .fault ≡ 10) ↔ (length xs < length text)
+  unfolding answered
+  write-room none =
+      let then = first-zero fault (roomFault text xs) none in
+      let short = short-exactly (length text) (length xs) in
+      (λ e. short .0 (sym then ∙ e), λ lt. then ∙ short .1 lt)
 
   pub write-length : writes fault text xs .fault ≡ 0 → writes fault text xs .value ≡ length text
   unfolding answered
@@ -120,6 +177,18 @@ module _ (fault : ℕ) (text xs : List ℕ) where
 
 abbrev pub crewNumbers : List ℕ
 crewNumbers = 2 ∷ 3 ∷ 4 ∷ 6 ∷ 7 ∷ 8 ∷ 9 ∷ []
+
+-- each of them is a refusal's
+pub refusal-said : (n : ℕ) → OneOf crewNumbers n → (r : Refusal) × (refusalNumber r ≡ n)
+unfolding OneOf
+refusal-said n (inl e) = (refusal.Head, sym e)
+refusal-said n (inr (inl e)) = (refusal.Letters, sym e)
+refusal-said n (inr (inr (inl e))) = (refusal.Constraints, sym e)
+refusal-said n (inr (inr (inr (inl e)))) = (refusal.Shape, sym e)
+refusal-said n (inr (inr (inr (inr (inl e))))) = (refusal.Broken, sym e)
+refusal-said n (inr (inr (inr (inr (inr (inl e)))))) = (refusal.Mask, sym e)
+refusal-said n (inr (inr (inr (inr (inr (inr (inl e))))))) = (refusal.AfterDone, sym e)
+refusal-said n (inr (inr (inr (inr (inr (inr (inr none))))))) = absurd none
 
 abbrev pub Numbered : Told → Type 0
 Numbered (instruct m) = Unit {0}
@@ -151,3 +220,9 @@ unfolding OneOf
 report-one p (instruct m) o told = unless-one (0 ∷ crewNumbers) (mayReport p m o) refusal.Mask refl
 report-one p complete o told = one-of (0 ∷ crewNumbers) 9 refl refl
 report-one p (refuse n) o told = inr told
+
+-- a report that is accepted was told an instruction
+pub accepted-of : (p : Plan) (o : ℕ) (x : Told) → Numbered x → reportFault p x o ≡ 0 → (m : Move) × (x ≡ instruct m)
+accepted-of p o (instruct m) told e = (m, refl)
+accepted-of p o complete told e = let z : _≡_ {A = ℕ} 9 0 = e in absurd (omega arith)
+accepted-of p o (refuse n) told e = let (r, is) = refusal-said n told in absurd (no-refusal r (is ∙ e))

@@ -1,47 +1,139 @@
--- Theorem: demand 2. Read the statement in specs/Demand2.antt; only the checker need believe the proof.
+-- Theorem: demand 2 holds of this planner. Read the statement in specs/Demand2.antt; only the checker need believe the proof.
 use mathlib.Core.Path.{_≡_, refl, sym, ap, _∙_}
-use mathlib.Core.List.{List}
-use Prim.Native.Nat.{ℕ}
+use mathlib.Core.Logic.{_↔_}
+use mathlib.Core.Bool.{true}
+use mathlib.Core.List.{List, _++_}
+use Prim.Native.Nat.{ℕ, _*_, _≤_}
+use native.Mathlib.Omega.{arith}
+use lib.Dec.{leb}
+use lib.ListN.{length, take, drop, replicate}
+use lib.Seq.{take-at}
 use Rattle.network.specs.Tree.{strategyOf}
+use Rattle.network.proofs.Booleans.{leb-yes}
 use Rattle.plan.specs.declared.Plan.{Plan}
-use Rattle.plan.specs.Answer.{Answer}
+use Rattle.plan.specs.declared.Refusal.the-variants as refusal
+use Rattle.plan.specs.Answer.{unless, first, Answer, fine, answered, filled}
 use Rattle.plan.specs.Plan.{networkOf}
 use Rattle.plan.specs.WellFormed.{WellFormed}
 use Rattle.plan.proofs.AnswerLaws.{first-none}
 use Rattle.judge.specs.Judge.{planFault}
-use Rattle.judge.proofs.WellFormedLaws.{fine-exactly}
+use Rattle.judge.proofs.JudgeTheorems.{fine-exactly}
+use Rattle.frame.specs.Frame.{Bytes}
+use Rattle.tree.specs.Nodes.{mostBytes, legalLength, nodeCount, firstNodes}
+use Rattle.tree.proofs.NodeLaws.{legal-is}
 use Rattle.plan_text.specs.PlanText.{planText}
 use Rattle.plan_text.proofs.PlanTextTheorems as plan-text
-use Rattle.tree_text.specs.TreeText.{treeText, bytesIn}
+use Rattle.tree_text.specs.TreeText.{treeText, readNodes, bytesIn, readTree, readTreeLeaves}
 use Rattle.tree_text.proofs.TreeTextTheorems as tree-text
 use Rattle.checker.specs.Checker.{treeFault, checkFault}
 use Rattle.checker.proofs.CheckerTheorems as checker
-use Rattle.demands.specs.Demand2.{Demand2}
+use Rattle.demands.specs.ThisPlanner.{planner}
+use Rattle.demands.specs.Demand2.{Sized, planTextIn, treeTextIn, Demand2}
+use Rattle.demands.proofs.Demand1Laws.{first-zero, long-enough}
 
--- the checker says yes only of a well-formed plan
+-- ---- plan texts
+
+plan-back-so :
+    (p : Plan) → WellFormed p → Sized p → (xs : List ℕ) → length (planText p) ≤ length xs →
+    (planner .writesPlan p xs ≡ fine (length (planText p))) × (planner .readsPlan (planTextIn planner p xs) ≡ fine p)
+plan-back-so p wf (six, sixty-four) = plan-text.written-reads-back p wf six sixty-four
+
+-- ---- tree texts
+
+-- a buffer with room
+abbrev blank : List ℕ
+blank = replicate mostBytes 0
+
+blank-room : mostBytes ≤ length blank
+blank-room = omega arith
+
+-- with room, the call reads what the text says
+module _ (t xs : List ℕ) (room : mostBytes ≤ length xs) where
+  reads-so : readTree t xs .fault ≡ readNodes t .fault
+  unfolding readTree answered
+  reads-so = first-zero _ (readNodes t .fault) (long-enough mostBytes (length xs) room)
+
+  -- .. and puts it at the front of the buffer
+  reads-fine : (n : ℕ) → readNodes t ≡ fine n → (readTree t xs ≡ fine n) × (readTreeLeaves t xs ≡ bytesIn n t ++ drop (length (bytesIn n t)) xs)
+  unfolding readTree answered filled unless first
+  reads-fine n e = let y = leb-yes mostBytes (length xs) room in rw (y, e) (refl, refl)
+
+  read-fine : (n : ℕ) → readTree t xs ≡ fine n → readNodes t ≡ fine n
+  unfolding readTree answered
+  read-fine n e =
+      let none : readNodes t .fault ≡ 0 = sym reads-so ∙ ap (λ (x : Answer ℕ). x .fault) e in
+      let whole : readNodes t ≡ fine (readNodes t .value) = λ i. record { fault = none i; value = readNodes t .value } in
+      let same = ap (λ (x : Answer ℕ). x .value) (sym (reads-fine (readNodes t .value) whole .0) ∙ e) in
+      whole ∙ ap fine same
+
+  tree-exactly-so :
+      (bs : List ℕ) → Bytes bs →
+      ((readTree t xs ≡ fine (nodeCount bs)) × (firstNodes (readTreeLeaves t xs) (nodeCount bs) ≡ bs))
+      ↔ ((t ≡ treeText bs) × (legalLength (length bs) ≡ true))
+  tree-exactly-so bs h =
+      let n = nodeCount bs in
+      let front : readNodes t ≡ fine n → firstNodes (readTreeLeaves t xs) n ≡ bytesIn n t = λ e.
+      ap (λ (l : List ℕ). take (3 * n) l) (reads-fine n e .1)
+      ∙ take-at (bytesIn n t) (drop (length (bytesIn n t)) xs) (3 * n) (tree-text.whatever-reads t n e .1) in (
+        λ (read, is). let e = read-fine n read in tree-text.read-exactly t bs h .0 (e, sym (front e) ∙ is),
+        λ says.
+            let (e, is) = tree-text.read-exactly t bs h .1 says in
+            (reads-fine n e .0, front e ∙ is),
+      )
+
+tree-back-so :
+    (bs : List ℕ) → Bytes bs → legalLength (length bs) ≡ true → (xs ys : List ℕ) → length (treeText bs) ≤ length xs →
+    mostBytes ≤ length ys →
+    (planner .writesTree bs xs ≡ fine (length (treeText bs))) × (readTree (treeTextIn planner bs xs) ys ≡ fine (nodeCount bs))
+    × (readTreeLeaves (treeTextIn planner bs xs) ys ≡ bs ++ drop (length bs) ys)
+tree-back-so bs h legal xs ys room long =
+    let (written, read) = tree-text.written-reads-back bs h legal xs room in (written, read ys long .0, read ys long .1)
+
+-- what is written of bytes is their text
+written-is :
+    (bs : List ℕ) → Bytes bs → legalLength (length bs) ≡ true → (xs : List ℕ) → length (treeText bs) ≤ length xs →
+    treeTextIn planner bs xs ≡ treeText bs
+written-is bs h legal xs room =
+    let (written, count, front) = tree-back-so bs h legal xs blank room blank-room in
+    let legal-so = legal-is (length bs) legal in
+    let three : length bs ≡ 3 * nodeCount bs = legal-so .threes in
+    let front-is : firstNodes (readTreeLeaves (treeTextIn planner bs xs) blank) (nodeCount bs) ≡ bs =
+    ap (λ (l : List ℕ). take (3 * nodeCount bs) l) front ∙ take-at bs (drop (length bs) blank) (3 * nodeCount bs) three in
+    tree-exactly-so (treeTextIn planner bs xs) blank blank-room bs h .0 (count, front-is) .0
+
+tree-one-so :
+    (bs cs : List ℕ) → Bytes bs → Bytes cs → legalLength (length bs) ≡ true → legalLength (length cs) ≡ true → (xs ys : List ℕ) →
+    length (treeText bs) ≤ length xs → length (treeText cs) ≤ length ys → treeTextIn planner bs xs ≡ treeTextIn planner cs ys → bs ≡ cs
+tree-one-so bs cs h h′ legal legal′ xs ys room room′ e =
+    let same : treeText bs ≡ treeText cs = sym (written-is bs h legal xs room) ∙ e ∙ written-is cs h′ legal′ ys room′ in
+    let one = tree-text.read-exactly (treeText bs) bs h .1 (refl, legal) in
+    let two = tree-text.read-exactly (treeText bs) cs h′ .1 (same, legal′) in
+    sym (one .1) ∙ ap (λ (x : Answer ℕ). bytesIn (x .value) (treeText bs)) (sym (one .0) ∙ two .0) ∙ two .1
+
+-- ---- the checker
+
+-- it says yes only of a well-formed plan
 plan-fine : (p : Plan) (bs : List ℕ) → checkFault p bs ≡ 0 → WellFormed p
 unfolding checkFault
 plan-fine p bs e = fine-exactly p .0 (first-none (planFault p) (treeFault p bs) e .0)
 
-pub demand2 : Demand2
+-- ---- The theorem
+
+pub demand2 : Demand2 planner
 demand2 =
     record {
       plan-exactly = λ t p (six, sixty-four). (
         λ e. let h = plan-text.read-exactly t p .0 e in (h .0, h .1),
         λ h. plan-text.read-exactly t p .1 (h .0, h .1, six, sixty-four),
       );
-      plan-back = λ p wf (six, sixty-four). plan-text.written-reads-back p wf six sixty-four;
-      plan-one = λ p q wf wf′ (six, sixty-four) (six′, sixty-four′) e.
-          let one = plan-text.read-exactly (planText p) p .1 (refl, wf, six, sixty-four) in
-          let two = plan-text.read-exactly (planText p) q .1 (e, wf′, six′, sixty-four′) in
-          ap (λ (x : Answer Plan). x .value) (sym one ∙ two);
-      tree-exactly = tree-text.read-exactly;
-      tree-back = λ bs h legal xs ys room long.
-          let (written, read) = tree-text.written-reads-back bs h legal xs room in (written, read ys long .0, read ys long .1);
-      tree-one = λ bs cs h h′ legal legal′ e.
-          let one = tree-text.read-exactly (treeText bs) bs h .1 (refl, legal) in
-          let two = tree-text.read-exactly (treeText bs) cs h′ .1 (e, legal′) in
-          sym (one .1) ∙ ap (λ (x : Answer ℕ). bytesIn (x .value) (treeText bs)) (sym (one .0) ∙ two .0) ∙ two .1;
+      plan-back = plan-back-so;
+      plan-one = λ p q wf wf′ sized sized′ xs ys room room′ e.
+          let one = plan-back-so p wf sized xs room .1 in
+          let two = plan-back-so q wf′ sized′ ys room′ .1 in
+          ap (λ (x : Answer Plan). x .value) (sym one ∙ ap (planner .readsPlan) e ∙ two);
+      tree-exactly = λ t bs xs h room. tree-exactly-so t xs room bs h;
+      tree-back = tree-back-so;
+      tree-one = tree-one-so;
       yes-exactly = λ p bs. (
         λ e.
             let wf = plan-fine p bs e in

@@ -31,23 +31,12 @@ use Rattle.following.specs.Calls.{Run, theRun, Call, showing, reporting}
 use Rattle.demands.specs.Demand1.{OneOf}
 use Rattle.demands.specs.Crews.{ShownBy, ReportedBy, Made, showed, reported, Answered, heldAfter, Crew, historyHeld, stepsFollowed, Done}
 use Rattle.demands.specs.Demand3.{CanBeLengthened, EveryCrew, EveryTwoCrews}
-use Rattle.demands.proofs.Demand1Laws.{crewNumbers, Numbered}
+use Rattle.demands.proofs.Demand1Laws.{crewNumbers, refusal-said, Numbered}
 use Rattle.demands.proofs.Demand1Theorem.{show-numbered, reports-one, search-one}
 use Rattle.demands.proofs.ListLaws.{historyAfter, stepsAfter, toldAfter, ListDone, Lengthened, EveryList, EveryTwoLists}
 use Rattle.demands.proofs.MadeLaws.{callMade, callsOf, history-is, steps-are, told-is, says-done}
 
 -- ---- numbers that are said
-
-refusal-said : (n : ℕ) → OneOf crewNumbers n → (r : Refusal) × (refusalNumber r ≡ n)
-unfolding OneOf
-refusal-said n (inl e) = (refusal.Head, sym e)
-refusal-said n (inr (inl e)) = (refusal.Letters, sym e)
-refusal-said n (inr (inr (inl e))) = (refusal.Constraints, sym e)
-refusal-said n (inr (inr (inr (inl e)))) = (refusal.Shape, sym e)
-refusal-said n (inr (inr (inr (inr (inl e))))) = (refusal.Broken, sym e)
-refusal-said n (inr (inr (inr (inr (inr (inl e)))))) = (refusal.Mask, sym e)
-refusal-said n (inr (inr (inr (inr (inr (inr (inl e))))))) = (refusal.AfterDone, sym e)
-refusal-said n (inr (inr (inr (inr (inr (inr (inr none))))))) = absurd none
 
 judged-said : (n : ℕ) → OneOf (0 ∷ crewNumbers) n → (j : Judged) × (judgedNumber j ≡ n)
 unfolding OneOf

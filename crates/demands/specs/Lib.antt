@@ -3,5 +3,6 @@ pub mod Planner
 pub mod ThisPlanner
 pub mod Demand1
 pub mod Demand2
+pub mod FixedOutcomes
 pub mod Crews
 pub mod Demand3
