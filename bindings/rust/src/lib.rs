@@ -417,7 +417,7 @@ pub fn report(plan: &[u8], tree: &[u8], history: &mut [u8], mask: u8) -> Result<
     taken_apart("report", answer, 1..=1, &[10, 2, 3, 4, 6, 7, 8, 9]).map(|_| ())
 }
 
-/// Carries out a list of calls, two bytes each, from this history on: 0 and any byte shows, any other byte and a mask
+/// Makes a list of calls, two bytes each, from this history on: 0 and any byte shows, any other byte and a mask
 /// reports that mask; an odd last byte is no call. Answers the number of accepted reports. `history` holds the history
 /// that is left; the first 32 bytes of `steps` hold, for each accepted report, the slot, points and choices told and
 /// the mask, zeros behind them. Refused calls change nothing; `follow` itself is refused only with 10, and then no byte

@@ -1,4 +1,4 @@
-//! A crew's list of calls, carried out one after the other.
+//! A crew's list of calls, made one after the other.
 
 use super::plan::Plan;
 use super::run::{report, show, History, Told};

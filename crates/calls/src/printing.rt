@@ -1,4 +1,4 @@
-// Answers, printed to standard output. The line feed behind each is printed by whoever carries out the line.
+// Answers, printed to standard output. The line feed after each is printed by the caller.
 use crate::lines;
 use frame::Written;
 use frame::hex;

@@ -40,7 +40,7 @@ fn slot_in(slots: &[u8; 8], x: u8) -> u8
     slots[x as usize]
 }
 
-// .. of slots that are handed on.
+// The same for an array passed by value.
 pub fn slot_of(slots: [u8; 8], x: u8) -> u8
     ensures { λ r. ⌜ r ≡ getD slots x 0 ⌝ }
 {

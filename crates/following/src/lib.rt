@@ -1,4 +1,4 @@
-// A crew's list of calls, carried out one after the other: the lists of demand 3 (crate `demands`) as running code.
+// A crew's list of calls, made one after the other: the lists of demand 3 (crate `demands`) as running code.
 use plan::Judged;
 use plan::Plan;
 use run::History;

@@ -12,7 +12,7 @@ unfoldable pub leastFrom : ℕ → ℤ → ℕ
 leastFrom y (pos d) = y - d
 leastFrom y (negsuc d) = y + suc d
 
--- the earliest slot that the constraint leaves its X where its Y is as scheduled; 0 where its label does not hold
+-- the earliest slot of X that keeps the constraint, given the slot of Y; 0 where its label does not hold
 unfoldable pub asked : Scenario → Schedule → Constraint → ℕ
 asked s ψ c = cond (holds s (c .label)) (leastFrom (ψ (c .to)) (c .bound)) 0
 

@@ -36,7 +36,7 @@ answered zeros n a = record { fault = n; value = cond (eqb n 0) a zeros }
 unfoldable pub andThen : {A : Type 0} → Answer A → (A → Answer A) → Answer A
 andThen a next = cond (eqb (a .fault) 0) (next (a .value)) a
 
--- a lent buffer, before it xs, after a call that fills its front with these bytes: only they change, and none under a fault
+-- the buffer xs after a call that writes these bytes at its front: without a fault only they change, under a fault none
 unfoldable pub filled : ℕ → List ℕ → List ℕ → List ℕ
 filled n bytes xs = cond (eqb n 0) (bytes ++ drop (length bytes) xs) xs
 

@@ -40,7 +40,8 @@ nearby v set c = anyBelow 6 (λ q. bit (v .unheard) q && bit set (bitXor c (2 ^ 
 
 -- ---- a win, as the table sees it
 
--- A win comes to one setting for each setting of the conditions not yet heard. `settled` leads there: s is come to where `settled s ≡ s`.
+-- For each outcome of the unheard conditions a win ends in exactly one setting. `settled` maps any setting to that one; s is reached where
+-- `settled s ≡ s`.
 pub record Win (v : View) (rows : List ℕ) : Type 0 where
   pub net : Network
   pub is-network : IsNetwork net
@@ -49,7 +50,7 @@ pub record Win (v : View) (rows : List ℕ) : Type 0 where
   pub few-points : v .points ≤ 8
   pub some-point : 0 < v .points
   pub settled : ℕ → ℕ
-  -- the slots in a setting that is come to
+  -- the slots in a setting that is reached
   pub time : ℕ → Schedule
   pub from : (s x : ℕ) → settled s ≡ s → x < v .points → getD (v .low) x 0 ≤ time s x
   pub upto : (s x : ℕ) → settled s ≡ s → x < v .points → time s x ≤ getD (v .cap) x 0
@@ -84,7 +85,7 @@ module _ {v : View} {rows : List ℕ} (w : Win v rows) where
   abbrev pub Below : ℕ → List ℕ → Type 0
   Below s slots = (x : ℕ) → x < v .points → getD slots x 0 ≤ w .time s x
 
-  -- a table that the win fits: in the settings that it comes to, no entry is later than the win's slot
+  -- a table that the win fits: in the settings that it reaches, no entry is later than the win's slot
   abbrev pub Fits : List ℕ → Type 0
   Fits table = (s x : ℕ) → w .settled s ≡ s → x < v .points → entry table s x ≤ w .time s x
 
@@ -96,7 +97,7 @@ pub record Tighter (v : View) (rows table after : List ℕ) : Type 0 where
 pub record Lost (v : View) (rows table : List ℕ) : Type 0 where
   pub none : (w : Win v rows) → ¬ Fits w table
 
--- every win that fits the one table and comes to s fits the other
+-- every win that fits the one table and reaches s fits the other
 pub record Assuming (v : View) (rows : List ℕ) (s : ℕ) (table after : List ℕ) : Type 0 where
   pub fits : (w : Win v rows) → w .settled s ≡ s → Fits w table → Fits w after
 
@@ -104,11 +105,11 @@ pub record Assuming (v : View) (rows : List ℕ) (s : ℕ) (table after : List �
 pub record Moves (v : View) (rows : List ℕ) (s : ℕ) (slots after : List ℕ) : Type 0 where
   pub below : (w : Win v rows) → w .settled s ≡ s → Below w s slots → Below w s after
 
--- where these slots are no later than the win's in setting s, should it come there, a win that fits the one table fits the other
+-- where these slots are no later than the win's in setting s, if it reaches s, a win that fits the one table fits the other
 pub record Follows (v : View) (rows : List ℕ) (s : ℕ) (slots table after : List ℕ) : Type 0 where
   pub fits : (w : Win v rows) → (w .settled s ≡ s → Below w s slots) → Fits w table → Fits w after
 
--- no win that comes to s has these slots or earlier ones
+-- no win that reaches s has every point in these slots or later ones
 pub record Past (v : View) (rows : List ℕ) (s : ℕ) (slots : List ℕ) : Type 0 where
   pub none : (w : Win v rows) → w .settled s ≡ s → ¬ Below w s slots
 
@@ -117,8 +118,7 @@ pub record Flipped (v : View) (rows table : List ℕ) (s q x r : ℕ) : Type 0 w
   pub below :
       (w : Win v rows) → Fits w table → w .settled s ≡ s → bit (v .unheard) q ≡ true → bit (v .left) x ≡ true → r ≤ w .time s x
 
--- The row of s has these slots or earlier ones; where it has not, and in other rows, no entry rose. (Of what a table says too little only
--- time is lost.)
+-- An entry of row s grew to these slots at most; no other entry grew. (Entries that are too small cost time, never correctness.)
 pub record Put (table after : List ℕ) (s : ℕ) (slots : List ℕ) : Type 0 where
   pub each :
       (r x : ℕ) → x < 8 → (entry after r x ≤ entry table r x) ⊎ ((r ≡ s) × (entry after r x ≤ getD slots x 0))
@@ -127,6 +127,6 @@ pub record Put (table after : List ℕ) (s : ℕ) (slots : List ℕ) : Type 0 wh
 pub record AllStruck (v : View) (table : List ℕ) (c : ℕ) : Type 0 where
   pub each : (d : ℕ) → Within (v .undecided) d → entry table (setTo c (v .undecided) d) 0 ≡ 255
 
--- slots that are no later than those of any win that fits, in any setting that it comes to
+-- slots that are no later than those of any win that fits, in any setting that it reaches
 pub record Soonest (v : View) (rows table slots : List ℕ) : Type 0 where
   pub below : (w : Win v rows) → Fits w table → (s : ℕ) → w .settled s ≡ s → Below w s slots

@@ -59,7 +59,7 @@ pub fn put_row(table: &mut [u8; 512], s: u8, slots: [u8; 8])
     }
 }
 
-// Setting s is struck: no win comes to it. 255 is no slot, and later than any.
+// Setting s is struck: no win reaches it. 255 is no slot, and later than any.
 pub fn strike(table: &mut [u8; 512], s: u8)
     requires { ⌜ s < 64 ⌝ }
     ensures { λ r. ⌜ Put (now (table .entry)) (now (table .exit)) s (replicate 8 255) ⌝ }

@@ -1,4 +1,4 @@
-// Probing: a setting to which no win comes is found by assuming that one does.
+// Probing: assume that a win reaches a setting; where that leaves no win, strike the setting.
 use crate::View;
 use crate::cells;
 use crate::rounds;
@@ -8,7 +8,7 @@ ghost use mathlib.Core.List.{List};
 ghost use Prim.Native.Nat.{ℕ, _<_};
 ghost use Rattle.table.specs.Table.{Tighter, Lost, Assuming};
 
-// The other settings of the scenario of s are struck: a win comes to one setting of each scenario.
+// The other settings of the scenario of s are struck: a win reaches one setting of each scenario.
 fn assume(v: View, table: &mut [u8; 512], s: u8)
     ensures { λ r. ⌜ ((rows : List ℕ) → Assuming v rows s (now (table .entry)) (now (table .exit))) ⌝ }
 {
@@ -25,7 +25,7 @@ fn assume(v: View, table: &mut [u8; 512], s: u8)
     }
 }
 
-// Setting s is struck if assuming that a win comes to it leaves none. Says whether it was.
+// Setting s is struck if assuming that a win reaches it leaves none. Says whether it was.
 fn probe(v: View, rows: &[u16; 320], table: &mut [u8; 512], s: u8) -> bool
     requires { ⌜ s < 64 ⌝ }
     ensures { λ r. ⌜ Tighter v (now (rows .entry)) (now (table .entry)) (now (table .exit)) ⌝ }
@@ -74,7 +74,8 @@ fn probe_each(v: View, rows: &[u16; 320], table: &mut [u8; 512]) -> u64
     }
 }
 
-// Probing to the end: true only where no win is left. (The count ends the loop for the checker; past it the table would only say less.)
+// Probing to the end: true only where no win is left. (The bound is there so that the loop provably ends. Stopping early is sound: the table
+// only proves less.)
 pub fn refutes(v: View, rows: &[u16; 320], table: &mut [u8; 512]) -> bool
     ensures { λ r. ⌜ Tighter v (now (rows .entry)) (now (table .entry)) (now (table .exit))
         × (r ≡ true → Lost v (now (rows .entry)) (now (table .entry))) ⌝ }

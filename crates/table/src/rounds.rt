@@ -141,8 +141,8 @@ pub fn all_remain(v: View, table: &[u8; 512], moved: u64) -> bool
     }
 }
 
-// Rounds until nothing changes. Says false only where no win is left. (The count ends the loop for the checker; past it the table would only
-// say less.)
+// Rounds until nothing changes. Says false only where no win is left. (The bound is there so that the loop provably ends. Stopping early is
+// sound: the table only proves less.)
 pub fn tighten(v: View, rows: &[u16; 320], table: &mut [u8; 512], moved: u64) -> bool
     ensures { λ r. ⌜ Tighter v (now (rows .entry)) (now (table .entry)) (now (table .exit))
         × (r ≡ false → Lost v (now (rows .entry)) (now (table .entry))) ⌝ }

@@ -68,9 +68,9 @@ pub fn letter_mask(q: u8) -> u8
     1u8 << q
 }
 
-// A slot before which setting s cannot have point x, by the flip rule for the unheard condition q: x comes later than the point of q, or no
-// earlier than in some setting with q the other way round, in which the decision that x discloses is the same and the other open ones are free. 0 where
-// the table says as much already. (The remainder makes the disclosing point an index; a plan has no point past 7.)
+// The flip rule for the unheard condition q. In setting s, point x comes in a later slot than the point of q, or in the same slot as in some
+// setting with q flipped (the same decision at x, other open decisions free). Answers the least slot that this allows, or 0 where the table
+// already has it. (The remainder makes the disclosing point an index; a plan has no point past 7.)
 fn flip_slot(v: View, table: &[u8; 512], s: u8, q: u8, x: u8) -> u8
     requires { ⌜ (s < 64) × (q < 6) × (x < 8) ⌝ }
     ensures { λ r. ⌜ ((rows : List ℕ) → Flipped v rows (now (table .entry)) s q x r) ⌝ }

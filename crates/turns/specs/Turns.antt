@@ -21,8 +21,8 @@ most net s = room net s - 1
 abbrev pub mostBehind : Network → State → Move → ℕ
 mostBehind net s m = outcomes net m * most net (after net s m 0)
 
--- The bytes lent to a turn, before it xs, after it ys: the tree that it found; behind it, up to byte 3 * n, scratch, which moves leave
--- that were tried and given up; from there on nothing changes. What the scratch is, is not said: `search` clears it.
+-- A turn is lent xs and leaves ys: first the tree that it found, then scratch up to byte 3 * n, written by moves that it gave up; later
+-- bytes are unchanged. The contract leaves open what the scratch is; `search` clears it.
 pub record Leaves (tree : List ℕ) (n : ℕ) (xs ys : List ℕ) : Type 0 where
   pub scratch : List ℕ
   pub bounded : length tree + length scratch ≡ 3 * n
