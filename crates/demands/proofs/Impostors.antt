@@ -44,11 +44,11 @@ use Rattle.run.proofs.Cases.{move}
 use Rattle.following.specs.Calls.{Run, theRun, Call, reporting}
 use Rattle.following.proofs.Cases.{calling, step}
 use Rattle.demands.specs.Planner.{Planner}
-use Rattle.demands.specs.ThisPlanner.{planner}
 use Rattle.demands.specs.Demand1.{OneOf}
 use Rattle.demands.specs.Demand3.{Hopeless, Demand3For, Demand3}
 use Rattle.demands.proofs.Demand1Laws.{unless-one, crewNumbers, Numbered, told-numbered, report-one}
 use Rattle.demands.proofs.Demand1Theorem.{show-numbered}
+use Rattle.demands.proofs.OtherPlanners.{searching, running}
 use Rattle.demands.proofs.ListLaws.{stepsAfter, toldAfter, EveryList, EveryTwoLists}
 use Rattle.demands.proofs.SaidLaws.{told-said, reported-said, AllSaid, run-said, list-of, two-lists-of, crewOf}
 
@@ -60,32 +60,6 @@ lent = replicate 573 9
 
 room : mostBytes ≤ length lent
 room = omega arith
-
--- this planner with another search, or with another run
-abbrev searching : (Plan → List ℕ → Answer ℕ) → (Plan → List ℕ → List ℕ) → Run → Planner
-searching searches leaves run =
-    record {
-      judges = planner .judges;
-      readsPlan = planner .readsPlan;
-      writesPlan = planner .writesPlan;
-      planWritten = planner .planWritten;
-      readsTree = planner .readsTree;
-      treeRead = planner .treeRead;
-      writesTree = planner .writesTree;
-      treeWritten = planner .treeWritten;
-      checks = planner .checks;
-      searches = searches;
-      leaves = leaves;
-      run = run;
-      follows = planner .follows;
-      fixes = planner .fixes;
-      screens = planner .screens;
-      refuses = planner .refuses;
-      prints = planner .prints;
-    }
-
-abbrev running : Run → Planner
-running run = searching searchAnswer searchLeaves run
 
 -- who is refused is not done
 not-done : {t : Told} {n : ℕ} → t ≡ refuse n → t ≡ complete → ⊥

@@ -12,4 +12,6 @@ pub mod Demand3Theorem
 pub mod SaidLaws
 pub mod Corollaries
 pub mod Cases
+pub mod OtherPlanners
 pub mod Impostors
+pub mod FurtherImpostors
