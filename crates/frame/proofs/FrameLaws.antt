@@ -1,5 +1,6 @@
 -- Laws of frames: a frame reads back from its text, and has one text only. Only the checker need believe this file.
 use mathlib.Core.Path.{_≡_, refl, sym, ap, _∙_}
+use mathlib.Core.Logic.{_↔_}
 use mathlib.Core.Bool.{true, _&&_}
 use mathlib.Core.List.{List, [], _∷_, _++_}
 use Prim.Native.Nat.{ℕ, zero, suc, _≤_, _<_, _+_, _*_, _/_, _%_}
@@ -25,6 +26,10 @@ pub bytes : (bs : List ℕ) → EachByte bs → Bytes bs
 bytes [] h k = lit< tt
 bytes (b ∷ bs) h zero = h .0
 bytes (b ∷ bs) h (suc k) = bytes bs (h .1) k
+
+pub bytes-more : (b : ℕ) (bs : List ℕ) → b < 256 → Bytes bs → Bytes (b ∷ bs)
+bytes-more b bs lt h zero = lt
+bytes-more b bs lt h (suc k) = h k
 
 pub bytes-append : (bs cs : List ℕ) → Bytes bs → Bytes cs → Bytes (bs ++ cs)
 bytes-append [] cs h g k = g k
@@ -156,3 +161,33 @@ unfolding listed
 whole-said kind n s h e =
     whole-text kind (suc n) s e
     ∙ ap (λ (b : ℕ). frameText (b ∷ listed n (λ k. valueAt s (suc k))) ++ drop (frameLength (suc n)) s) (whole-kind kind (suc n) s h e)
+
+-- ---- whole exactly
+
+listed-length : (n : ℕ) (f : ℕ → ℕ) → length (listed n f) ≡ n
+unfolding listed
+listed-length zero f = refl
+listed-length (suc n) f = ap suc (listed-length n (λ k. f (suc k)))
+
+listed-bytes : (n : ℕ) (f : ℕ → ℕ) → ((k : ℕ) → f k < 256) → Bytes (listed n f)
+unfolding listed
+listed-bytes zero f h = λ k. lit< tt
+listed-bytes (suc n) f h = bytes-more (f zero) (listed n (λ k. f (suc k))) (h zero) (listed-bytes n (λ k. f (suc k)) (λ k. h (suc k)))
+
+-- a text begins with a whole frame exactly where it begins with the text of one
+pub whole-exactly :
+    (kind n : ℕ) (s : List ℕ) → kind < 256 →
+    (whole kind (suc n) s ≡ true)
+    ↔ ((bs : List ℕ) × (r : List ℕ) × (length bs ≡ n) × Bytes bs × (s ≡ frameText (kind ∷ bs) ++ r))
+whole-exactly kind n s lt = (
+  λ e. (
+    listed n (λ k. valueAt s (suc k)),
+    drop (frameLength (suc n)) s,
+    listed-length n (λ k. valueAt s (suc k)),
+    listed-bytes n (λ k. valueAt s (suc k)) (λ k. omega arith),
+    whole-said kind n s lt e,
+  ),
+  λ h.
+      let (bs, r, long, each, is) = h in
+      rw (← long, is) (whole-back kind bs r (bytes-more kind bs lt each)),
+)

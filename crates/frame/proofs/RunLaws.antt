@@ -13,7 +13,7 @@ use Rattle.network.proofs.JoinLaws.{join-first}
 use Rattle.plan.specs.declared.Refusal.{Refusal}
 use Rattle.plan.specs.Refusal.{refusalNumber}
 use Rattle.plan.specs.Answer.{unless, first, Answer, fine, answered, andThen, filled}
-use Rattle.plan.proofs.RefusalLaws.{no-refusal}
+use Rattle.plan.proofs.RefusalLaws.{no-refusal, some-number}
 use Rattle.plan.proofs.AnswerLaws.{unless-is, unless-of, answered-fault, answered-fine}
 use Rattle.frame.specs.Frame.{frameLength}
 use Rattle.frame.specs.Texts.{frameFault, framesFrom, atEnd}
@@ -30,6 +30,15 @@ frame-fine-is text values false g e =
 pub frame-fine : (text values : Refusal) {w g : Bool} → w ≡ true → g ≡ true → frameFault text w values g ≡ 0
 unfolding frameFault first unless
 frame-fine text values e f = rw (e, f)
+
+-- a frame that is not whole has the text's fault, whatever its values; a whole one whose values are not good has theirs
+pub frame-broken : (text values : Refusal) {w : Bool} (g : Bool) → w ≡ false → frameFault text w values g ≡ refusalNumber text
+unfolding frameFault first unless
+frame-broken text values g e = rw (e, some-number text)
+
+pub frame-bad : (text values : Refusal) {w g : Bool} → w ≡ true → g ≡ false → frameFault text w values g ≡ refusalNumber values
+unfolding frameFault first unless
+frame-bad text values e f = rw (e, f)
 
 -- a frame's fault is none or one of its two refusals'
 pub frame-fault-of :
@@ -56,6 +65,11 @@ module _ {A : Type 0} where
   pub then-stops : (a : Answer A) (next : A → Answer A) → ¬ (a .fault ≡ 0) → andThen a next ≡ a
   unfolding andThen
   then-stops a next n = rw (eqb-no (a .fault) 0 n)
+
+  pub then-refused :
+      (k : Refusal) (a : Answer A) (next : A → Answer A) → a .fault ≡ refusalNumber k → andThen a next .fault ≡ refusalNumber k
+  then-refused k a next e =
+      ap (λ (x : Answer A). x .fault) (then-stops a next (λ z. no-refusal k (sym e ∙ z))) ∙ e
 
   -- no fault at the end is none on the way
   pub then-fine : (a : Answer A) (next : A → Answer A) → andThen a next .fault ≡ 0 → a .fault ≡ 0
@@ -86,6 +100,10 @@ module _ {A : Type 0} where
   at-end-is zeros text a (c ∷ s) e =
       let z : suc (length s) ≡ 0 = eqb-is (suc (length s)) 0 (unless-is (eqb (suc (length s)) 0) text e) in absurd (omega arith)
 
+  pub at-end-extra : (zeros : A) (text : Refusal) (a : A) (c : ℕ) (s : List ℕ) → atEnd zeros text a (c ∷ s) .fault ≡ refusalNumber text
+  unfolding atEnd answered unless
+  at-end-extra zeros text a c s = let n : ¬ (suc (length s) ≡ 0) = λ e. omega arith in rw (eqb-no (suc (length s)) 0 n)
+
 -- ---- lent buffers
 
 pub filled-is : (bytes xs : List ℕ) → filled 0 bytes xs ≡ bytes ++ drop (length bytes) xs
@@ -104,6 +122,13 @@ module _ {A : Type 0} (read : A → ℕ → List ℕ → Answer A) (m : ℕ) (af
       ≡ andThen (read a i s) (λ b. framesFrom read m after (n - (i + 1)) (i + 1) b (drop (frameLength m) s))
   unfolding framesFrom
   frames-step n i a s h = let e : n - i ≡ suc (n - (i + 1)) = omega arith in rw e
+
+  -- the first faulty frame decides
+  pub frames-refused :
+      (k : Refusal) (n i : ℕ) (a : A) (s : List ℕ) → i < n → read a i s .fault ≡ refusalNumber k →
+      framesFrom read m after (n - i) i a s .fault ≡ refusalNumber k
+  frames-refused k n i a s h e =
+      ap (λ (x : Answer A). x .fault) (frames-step n i a s h) ∙ then-refused k (read a i s) _ e
 
   pub frames-end : (n i : ℕ) (a : A) (s : List ℕ) → n ≤ i → framesFrom read m after (n - i) i a s ≡ after a s
   unfolding framesFrom
@@ -133,23 +158,48 @@ module _ {A : Type 0} (read : A → ℕ → List ℕ → Answer A) (m : ℕ) (af
   run-back n st f r says long =
       back-from n 0 st f r (λ k lt u. let z : 0 + k ≡ k = omega arith in rw z (says k lt u)) long
 
-  -- what each good frame keeps, a good run keeps
-  pub run-invariant :
-      (I : ℕ → A → List ℕ → Type 0) (bound : ℕ) →
-      ((i : ℕ) (a : A) (s : List ℕ) → I i a s → i < bound → read a i s .fault ≡ 0 →
-      I (i + 1) (read a i s .value) (drop (frameLength m) s)) →
-      (n i : ℕ) (a : A) (s : List ℕ) → I i a s → i + n ≤ bound → framesFrom read m after n i a s .fault ≡ 0 →
-      (b : A) × (r : List ℕ) × I (i + n) b r × (framesFrom read m after n i a s ≡ after b r)
+  -- n frames and k behind them are one run
+  pub run-split :
+      (n k i : ℕ) (a : A) (s : List ℕ) →
+      framesFrom read m after (n + k) i a s ≡ framesFrom read m (framesFrom read m after k (i + n)) n i a s
   unfolding framesFrom
-  run-invariant I bound keeps zero i a s h le e = let z : i + 0 ≡ i = omega arith in (a, s, rw z h, refl)
-  run-invariant I bound keeps (suc n) i a s h le e =
-      let next : A → Answer A = λ b. framesFrom read m after n (i + 1) b (drop (frameLength m) s) in
-      let now = then-fine (read a i s) next e in
-      let goes : framesFrom read m after (suc n) i a s ≡ next (read a i s .value) = then-goes (read a i s) next now in
-      let later = run-invariant I bound keeps n (i + 1) (read a i s .value) (drop (frameLength m) s) (keeps i a s h (omega arith) now)
-      (omega arith) (rw goes at e) in
-      let z : i + 1 + n ≡ i + suc n = omega arith in
-      (later .0, later .1, rw z at (later .2), rw goes (later .3))
+  run-split zero k i a s = let z : zero + k ≡ k = omega arith in let y : i + zero ≡ i = omega arith in rw (z, y)
+  run-split (suc n) k i a s =
+      let z : suc n + k ≡ suc (n + k) = omega arith in
+      let y : i + suc n ≡ i + 1 + n = omega arith in
+      rw (z, y) (ap (andThen (read a i s)) (λ j b. run-split n k (i + 1) b (drop (frameLength m) s) j))
+
+  -- A run stops at its first faulty frame, or goes on to what follows its frames. What each good frame keeps holds there.
+  module _
+      (I : ℕ → A → List ℕ → Type 0) (bound : ℕ)
+      (keeps : (i : ℕ) (a : A) (s : List ℕ) → I i a s → i < bound → read a i s .fault ≡ 0 →
+      I (i + 1) (read a i s .value) (drop (frameLength m) s)) where
+    pub run-stops :
+        {C : Type 0} (n i : ℕ) (a : A) (s : List ℕ) → I i a s → i + n ≤ bound →
+        ((k : ℕ) (b : A) (r : List ℕ) → k < i + n → I k b r → ¬ (read b k r .fault ≡ 0) →
+        framesFrom read m after n i a s ≡ read b k r → C) →
+        ((b : A) (r : List ℕ) → I (i + n) b r → framesFrom read m after n i a s ≡ after b r → C) → C
+    unfolding framesFrom
+    run-stops zero i a s h le stops ends = let z : i + 0 ≡ i = omega arith in ends a s (rw z h) refl
+    run-stops (suc n) i a s h le stops ends =
+        let next : A → Answer A = λ b. framesFrom read m after n (i + 1) b (drop (frameLength m) s) in
+        by-test (eqb (read a i s .fault) 0)
+        (λ y.
+        let now = eqb-is (read a i s .fault) 0 y in
+        let goes : framesFrom read m after (suc n) i a s ≡ next (read a i s .value) = then-goes (read a i s) next now in
+        let z : i + 1 + n ≡ i + suc n = omega arith in
+        run-stops n (i + 1) (read a i s .value) (drop (frameLength m) s) (keeps i a s h (omega arith) now) (omega arith)
+        (λ k b r lt hk f e. stops k b r (omega arith) hk f (goes ∙ e))
+        (λ b r hb e. ends b r (rw z at hb) (goes ∙ e)))
+        (λ no.
+        let f = differs (read a i s .fault) 0 no in stops i a s (omega arith) h f (then-stops (read a i s) next f))
+
+    -- a good run does not stop
+    pub run-invariant :
+        (n i : ℕ) (a : A) (s : List ℕ) → I i a s → i + n ≤ bound → framesFrom read m after n i a s .fault ≡ 0 →
+        (b : A) × (r : List ℕ) × I (i + n) b r × (framesFrom read m after n i a s ≡ after b r)
+    run-invariant n i a s h le e =
+        run-stops n i a s h le (λ k b r lt hk f g. absurd (f (rw g at e))) (λ b r hb g. (b, r, hb, g))
 
   -- what each frame's answer has and what follows them has, the run's answer has
   pub run-each :

@@ -1,7 +1,6 @@
 -- Theorems on the judge: fine, 2, 3 and 4 are each given exactly. Read the statements; only the checker need believe the proofs.
 use mathlib.Core.Path.{_≡_, sym, ap, _∙_}
 use mathlib.Core.Logic.{_↔_}
-use Prim.Native.Nat.{ℕ}
 use Rattle.plan.specs.declared.Plan.{Plan}
 use Rattle.plan.specs.declared.Judged.{Judged}
 use Rattle.plan.specs.declared.Judged.the-variants as judged

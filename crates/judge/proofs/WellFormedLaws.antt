@@ -1,12 +1,12 @@
 -- Laws of the judgement: which fault comes first, by the parts of a well-formed plan. Only the checker need believe this file.
 use mathlib.Core.Path.{_≡_, refl, sym}
 use mathlib.Core.Logic.{_↔_, by-cases, inl, inr, ⊎-elim}
-use mathlib.Core.Bool.{Bool, true, false, cond}
+use mathlib.Core.Bool.{Bool, true, false, not, cond}
 use Prim.Native.Nat.{ℕ, _≤_, _<_}
 use native.Mathlib.Omega.{arith}
 use native.Mathlib.Decide.{decLt}
 use lib.Dec.{ltb}
-use Rattle.network.proofs.Booleans.{by-test, clash, ltb-yes, ltb-no, eqb-yes, eqb-is, says-le, says-lt, says-eq, says-not, says-or, _also_, false-exactly}
+use Rattle.network.proofs.Booleans.{by-test, clash, ltb-yes, ltb-no, eqb-yes, eqb-is, says-le, says-lt, says-eq, not-true, says-or, _also_, false-exactly}
 use Rattle.network.proofs.BelowLaws.{all-at, all-make, any-at, any-make}
 use Rattle.network.proofs.MachineLaws.{subset-is}
 use Rattle.masks.proofs.ByteLaws.{says-among}
@@ -41,12 +41,23 @@ says-head h n l c = says-le h 63 also says-le 1 n also says-le n 8 also says-le 
 
 -- ---- a letter
 
-abbrev FineLetter : Plan → ℕ → Letter → Type 0
-FineLetter p i l = ((l .point < p .points) × (l .kind ≤ 1)) × (takenBefore p i (l .point) ≡ false)
+-- no earlier letter has the point
+abbrev pub NotTaken : Plan → ℕ → ℕ → Type 0
+NotTaken p i point = (k : ℕ) → k < i → ¬ (letterAt p k .point ≡ point)
 
-says-letter : (p : Plan) (i : ℕ) (l : Letter) → (letterFine p i l ≡ true) ↔ FineLetter p i l
+says-not-taken : (p : Plan) (i point : ℕ) → (not (takenBefore p i point) ≡ true) ↔ NotTaken p i point
+unfolding takenBefore
+says-not-taken p i point = (
+  λ t k lt e. clash (any-make i _ k lt (eqb-yes _ _ e)) (not-true (takenBefore p i point) t),
+  λ n. by-test (takenBefore p i point) (λ y. let r = any-at i _ y in absurd (n (r .0) (r .1) (eqb-is _ _ (r .2)))) (λ z. rw z),
+)
+
+abbrev pub GoodLetter : Plan → ℕ → Letter → Type 0
+GoodLetter p i l = ((l .point < p .points) × (l .kind ≤ 1)) × NotTaken p i (l .point)
+
+pub says-letter : (p : Plan) (i : ℕ) (l : Letter) → (letterFine p i l ≡ true) ↔ GoodLetter p i l
 unfolding letterFine
-says-letter p i l = says-lt (l .point) (p .points) also says-le (l .kind) 1 also says-not (takenBefore p i (l .point))
+says-letter p i l = says-lt (l .point) (p .points) also says-le (l .kind) 1 also says-not-taken p i (l .point)
 
 says-no-letter : (l : Letter) → (letterUnused l ≡ true) ↔ (l ≡ zeroLetter)
 unfolding letterUnused
@@ -55,7 +66,7 @@ says-no-letter l =
     (λ t. let e = f .0 t in λ i. record { point = e .0 i; kind = e .1 i }, λ e. rw e refl)
 
 abbrev LetterThere : Plan → ℕ → Type 0
-LetterThere p i = Entry i (p .letters) (FineLetter p i (letterAt p i)) (letterAt p i ≡ zeroLetter)
+LetterThere p i = Entry i (p .letters) (GoodLetter p i (letterAt p i)) (letterAt p i ≡ zeroLetter)
 
 says-letter-entry : (p : Plan) (i : ℕ) → (letterEntry p i ≡ true) ↔ LetterThere p i
 unfolding letterEntry
@@ -77,7 +88,7 @@ says-bound b =
       λ h. f .1 (inr (omega arith, omega arith)),
     ))
 
-says-constraint : (p : Plan) (c : Constraint) → (constraintFine p c ≡ true) ↔ FineConstraint p c
+pub says-constraint : (p : Plan) (c : Constraint) → (constraintFine p c ≡ true) ↔ FineConstraint p c
 unfolding constraintFine
 says-constraint p c =
     let f =
@@ -148,36 +159,24 @@ module _ (p : Plan) where
         λ h. says .1 (((((h .horizon, h .some-point), h .points), h .letters), h .letters-points), h .constraints),
       )
 
-  -- two letters of which the later is fine have points of their own
-  apart : (i j : ℕ) → i < j → takenBefore p j (letterAt p j .point) ≡ false → letterAt p i .point ≡ letterAt p j .point → ⊥
-  unfolding takenBefore
-  apart i j lt z e = clash (any-make j _ i lt (eqb-yes _ _ e)) z
-
-  not-taken : FineLetters p → (i : ℕ) → i < p .letters → takenBefore p i (letterAt p i .point) ≡ false
-  unfolding takenBefore
-  not-taken h i lt =
-      by-test (takenBefore p i (letterAt p i .point))
-      (λ y. let r = any-at i _ y in
-      let e = h .own-point (r .0) i (omega arith) lt (eqb-is _ _ (r .2)) in
-      absurd (omega arith))
-      (λ z. z)
-
   pub letters-exactly : FineHead p → (lettersFine p ≡ true) ↔ FineLetters p
   unfolding lettersFine
   letters-exactly head =
       let few = head .letters in (
         λ t. let letter : (i : ℕ) → i < 6 → LetterThere p i = λ i lt. says-letter-entry p i .0 (all-at 6 (letterEntry p) t i lt) in
-            let free : (i : ℕ) → i < p .letters → takenBefore p i (letterAt p i .point) ≡ false = λ i lt. letter i (omega arith) .0 lt .1 in
+            let free : (i : ℕ) → i < p .letters → NotTaken p i (letterAt p i .point) = λ i lt. letter i (omega arith) .0 lt .1 in
             record {
               disclosing = λ i lt. letter i (omega arith) .0 lt .0 .0;
               own-point = λ i j li lj e. by-cases (decLt i j)
-                  (λ lt. absurd (apart i j lt (free j lj) e))
-                  (λ ge. by-cases (decLt j i) (λ lt. absurd (apart j i lt (free i li) (sym e))) (λ ge′. omega arith));
+                  (λ lt. absurd (free j lj i lt e))
+                  (λ ge. by-cases (decLt j i) (λ lt. absurd (free i li j lt (sym e))) (λ ge′. omega arith));
               kind = λ i lt. letter i (omega arith) .0 lt .0 .1;
               unused-letter = λ i ge lt. letter i lt .1 ge;
             },
-        λ h. all-make 6 (letterEntry p) (λ i lt. says-letter-entry p i .1
-            (λ used. ((h .disclosing i used, h .kind i used), not-taken h i used), λ past. h .unused-letter i past lt)),
+        λ h. all-make 6 (letterEntry p) (λ i lt. says-letter-entry p i .1 (
+          λ used. ((h .disclosing i used, h .kind i used), λ k lt e. let s = h .own-point k i (omega arith) used e in omega arith),
+          λ past. h .unused-letter i past lt,
+        )),
       )
 
   pub constraints-exactly : FineHead p → (constraintsFine p ≡ true) ↔ FineConstraints p

@@ -7,23 +7,23 @@ use lib.ListN.{length, length-append}
 use Rattle.plan.specs.declared.Plan.{Plan}
 use Rattle.plan.specs.WellFormed.{WellFormed}
 use Rattle.frame.specs.Frame.{byteAt, valueAt}
-use Rattle.frame.proofs.FrameLaws.{bytes, value-back}
+use Rattle.frame.proofs.FrameLaws.{bytes-more, value-back}
 use Rattle.plan_text.specs.PlanText.{planText}
 use Rattle.plan_text.proofs.LengthLaws.{plan-length}
 use Rattle.plan_text.proofs.ReadBackLaws.{head-bytes}
 
 -- the counts that a head says, whatever stands behind it
 module _ (p : Plan) (wf : WellFormed p) (r : List ℕ) where
-  abbrev head : List ℕ
-  head = 1 ∷ p .horizon ∷ p .points ∷ p .letters ∷ p .constraints ∷ []
+  abbrev values : List ℕ
+  values = p .horizon ∷ p .points ∷ p .letters ∷ p .constraints ∷ []
 
   letters-said : valueAt (planText p ++ r) 3 ≡ p .letters
   unfolding planText byteAt
-  letters-said = value-back head [] (bytes head (head-bytes p wf)) 3 (omega arith)
+  letters-said = value-back (1 ∷ values) [] (bytes-more 1 values (omega arith) (head-bytes p (wf .head))) 3 (omega arith)
 
   constraints-said : valueAt (planText p ++ r) 4 ≡ p .constraints
   unfolding planText byteAt
-  constraints-said = value-back head [] (bytes head (head-bytes p wf)) 4 (omega arith)
+  constraints-said = value-back (1 ∷ values) [] (bytes-more 1 values (omega arith) (head-bytes p (wf .head))) 4 (omega arith)
 
 -- where one plan's text begins with another's, nothing is left over
 pub nothing-left : (p q : Plan) → WellFormed p → WellFormed q → (r : List ℕ) → planText p ≡ planText q ++ r → length r ≡ 0

@@ -1,24 +1,22 @@
--- Laws of the entries of a plan: what makes it well-formed, and when its letters and constraints are fine. Only the checker need believe
--- this file.
-use mathlib.Core.Path.{_≡_}
-use mathlib.Core.Logic.{by-cases}
-use mathlib.Core.Bool.{Bool, true, cond}
+-- Laws of the entries of a plan: when the judge's tests hold of a letter and of a constraint, and when a plan is well formed by its entries.
+-- Only the checker need believe this file.
+use mathlib.Core.Path.{_≡_, sym, ap, _∙_}
+use mathlib.Core.Logic.{_↔_, by-cases}
+use mathlib.Core.Bool.{true}
 use mathlib.Core.List.{List}
 use Prim.Native.Nat.{ℕ, _≤_, _<_}
 use native.Mathlib.Omega.{arith}
+use native.Mathlib.Nat.{not-suc-le-zero}
 use native.Mathlib.Decide.{decLt}
-use lib.Dec.{ltb, eqb}
 use lib.ListN.{length, getD, replicate, List·getD-eq-default}
-use Rattle.network.proofs.Booleans.{ltb-yes, ltb-no}
-use Rattle.network.proofs.BelowLaws.{all-at, all-make, any-cong}
 use Rattle.plan.specs.declared.Letter.{Letter}
 use Rattle.plan.specs.declared.Constraint.{Constraint}
 use Rattle.plan.specs.declared.Plan.{Plan}
 use Rattle.plan.specs.Plan.{zeroLetter, zeroConstraint, letterAt, constraintAt}
-use Rattle.plan.specs.WellFormed.{WellFormed}
-use Rattle.judge.specs.Judge.{takenBefore, letterFine, letterUnused, letterEntry, lettersFine, constraintFine, constraintUnused, constraintEntry, constraintsFine}
-use Rattle.judge.proofs.JudgeLaws.{headOf, no-fault}
-use Rattle.judge.proofs.WellFormedLaws.{fine-exactly, no-fault-is}
+use Rattle.plan.specs.WellFormed.{FineHead, FineConstraint, WellFormed}
+use Rattle.judge.specs.Judge.{letterFine}
+use Rattle.judge.proofs.WellFormedLaws.{says-letter}
+use Rattle.plan_text.specs.FirstFault.{FineLetter, FineFront}
 use Rattle.plan_text.proofs.FilledLaws.{SameBelow, UnusedFrom}
 
 -- ---- a plan with other entries
@@ -49,60 +47,88 @@ withConstraints p cs =
 abbrev pub blank : Plan → Plan
 blank p = withConstraints (withLetters p (replicate 6 zeroLetter)) (replicate 64 zeroConstraint)
 
--- ---- a letter is fine by the points of the earlier ones
+-- a head is fine whatever the entries are
+pub head-alike : (p : Plan) (ls : List Letter) (cs : List Constraint) → FineHead p → FineHead (withConstraints (withLetters p ls) cs)
+head-alike p ls cs f =
+    record {
+      horizon = f .horizon;
+      some-point = f .some-point;
+      points = f .points;
+      letters = f .letters;
+      letters-points = f .letters-points;
+      constraints = f .constraints;
+    }
 
+-- ---- an entry
+
+pub letter-exactly : (p : Plan) (i : ℕ) (l : Letter) → (letterFine p i l ≡ true) ↔ FineLetter p i l
+letter-exactly p i l =
+    let f = says-letter p i l in (
+      λ t. let h = f .0 t in record { disclosing = h .0 .0; own-point = h .1; kind = h .0 .1 },
+      λ h. f .1 ((h .disclosing, h .kind), h .own-point),
+    )
+
+-- a letter is fine by the points of the earlier ones
 pub letter-earlier :
     (p q : Plan) (i : ℕ) (l : Letter) → p .points ≡ q .points → SameBelow zeroLetter i (p .letter) (q .letter) →
-    letterFine p i l ≡ true → letterFine q i l ≡ true
-unfolding letterFine takenBefore
-letter-earlier p q i l e same h =
-    rw (
-      ← e,
-      ← any-cong i (λ k. eqb (letterAt p k .point) (l .point)) (λ k. eqb (letterAt q k .point) (l .point)) (λ k lt. rw (same k lt)),
-    ) h
+    FineLetter p i l → FineLetter q i l
+letter-earlier p q i l e same f =
+    record {
+      disclosing = rw (← e) (f .disclosing);
+      own-point = λ k lt s. f .own-point k lt (ap (λ (m : Letter). m .point) (same k lt) ∙ s);
+      kind = f .kind;
+    }
 
--- ---- well-formed by its parts
+-- a constraint is fine by how many points and letters there are
+pub constraint-over :
+    (p q : Plan) (c : Constraint) → p .points ≡ q .points → p .letters ≡ q .letters → FineConstraint p c → FineConstraint q c
+constraint-over p q c e g f =
+    record {
+      from-point = rw (← e) (f .from-point);
+      to-point = rw (← e) (f .to-point);
+      two-bytes = f .two-bytes;
+      in-bounds = f .in-bounds;
+      need-letters = λ l y. rw (← g) (f .need-letters l y);
+      truth-needed = f .truth-needed;
+    }
 
-pub record Parts (p : Plan) : Type 0 where
-  pub head : headOf p ≡ true
-  pub letter : (i : ℕ) → i < p .letters → letterFine p i (letterAt p i) ≡ true
-  pub no-letter : UnusedFrom zeroLetter (p .letters) (p .letter)
-  pub constraint : (j : ℕ) → j < p .constraints → constraintFine p (constraintAt p j) ≡ true
-  pub no-constraint : UnusedFrom zeroConstraint (p .constraints) (p .constraint)
+-- ---- well-formed by its entries
 
--- entry i of an array of which n are used
-entry-used : (i n : ℕ) (x y : Bool) → i < n → cond (ltb i n) x y ≡ true → x ≡ true
-entry-used i n x y lt e = rw (ltb-yes i n lt) at e
-
-entry-fine : (i n : ℕ) {x y : Bool} → (i < n → x ≡ true) → (n ≤ i → y ≡ true) → cond (ltb i n) x y ≡ true
-entry-fine i n f g =
-    by-cases (decLt i n) (λ lt. rw (ltb-yes i n lt) (f lt)) (λ ge. rw (ltb-no i n ge) (g (omega arith)))
-
-unused-past :
+pub unused-past :
     {E : Type 0} (d : E) (k n : ℕ) (xs : List E) → length xs ≡ n → ((i : ℕ) → k ≤ i → i < n → getD xs i d ≡ d) → UnusedFrom d k xs
 unused-past d k n xs long h i le =
     by-cases (decLt i n) (h i le) (λ ge. List·getD-eq-default xs d (rw long (omega arith)))
 
 module _ (p : Plan) where
-  pub parts-of : WellFormed p → length (p .letter) ≡ 6 → length (p .constraint) ≡ 64 → Parts p
-  unfolding lettersFine letterEntry constraintsFine constraintEntry
-  parts-of wf six sixty-four =
-      let (head, letters, constraints) = no-fault-is p (fine-exactly p .1 wf) in
-      let few = wf .head .letters in
-      let some = wf .head .constraints in
+  pub letters-only : {i j : ℕ} → FineFront p i j → FineFront p i 0
+  letters-only f = record { head = f .head; letter = f .letter; constraint = λ k lt. absurd (not-suc-le-zero lt) }
+
+  pub front-of : WellFormed p → FineFront p (p .letters) (p .constraints)
+  front-of wf =
+      let f = wf .letters in
       record {
-        head = head;
-        letter = λ i lt. entry-used i (p .letters) _ (letterUnused (letterAt p i)) lt
-            (all-at 6 (letterEntry p) letters i (omega arith));
-        no-letter = unused-past zeroLetter (p .letters) 6 (p .letter) six (wf .letters .unused-letter);
-        constraint = λ j lt. entry-used j (p .constraints) _ (constraintUnused (constraintAt p j)) lt
-            (all-at 64 (constraintEntry p) constraints j (omega arith));
-        no-constraint = unused-past zeroConstraint (p .constraints) 64 (p .constraint) sixty-four (wf .constraints .unused-constraint);
+        head = wf .head;
+        letter = λ i lt. record {
+          disclosing = f .disclosing i lt;
+          own-point = λ k l e. let s = f .own-point k i (omega arith) lt e in omega arith;
+          kind = f .kind i lt;
+        };
+        constraint = wf .constraints .constraint;
       }
 
-  pub well-formed-of : Parts p → WellFormed p
-  unfolding lettersFine letterEntry letterUnused constraintsFine constraintEntry constraintUnused
-  well-formed-of h =
-      fine-exactly p .0 (no-fault p (h .head)
-      (all-make 6 (letterEntry p) (λ i lt. entry-fine i (p .letters) (h .letter i) (λ le. rw (h .no-letter i le))))
-      (all-make 64 (constraintEntry p) (λ j lt. entry-fine j (p .constraints) (h .constraint j) (λ le. rw (h .no-constraint j le)))))
+  pub well-formed-of :
+      FineFront p (p .letters) (p .constraints) → ((i : ℕ) → p .letters ≤ i → i < 6 → letterAt p i ≡ zeroLetter) →
+      ((j : ℕ) → p .constraints ≤ j → j < 64 → constraintAt p j ≡ zeroConstraint) → WellFormed p
+  well-formed-of f no-letter no-constraint =
+      record {
+        head = f .head;
+        letters = record {
+          disclosing = λ i lt. f .letter i lt .disclosing;
+          own-point = λ i j li lj e. by-cases (decLt i j)
+              (λ lt. absurd (f .letter j lj .own-point i lt e))
+              (λ ge. by-cases (decLt j i) (λ lt. absurd (f .letter i li .own-point j lt (sym e))) (λ ge′. omega arith));
+          kind = λ i lt. f .letter i lt .kind;
+          unused-letter = no-letter;
+        };
+        constraints = record { constraint = f .constraint; unused-constraint = no-constraint };
+      }

@@ -2,7 +2,7 @@
 use mathlib.Core.Path.{_≡_, refl, sym, ap, _∙_}
 use mathlib.Core.Logic.{by-cases}
 use mathlib.Core.List.{List, _++_, append-assoc}
-use Prim.Native.Nat.{ℕ, zero, suc, _+_, _≤_, _<_}
+use Prim.Native.Nat.{ℕ, zero, suc, _+_, _-_, _≤_, _<_}
 use native.Mathlib.Omega.{arith}
 use native.Mathlib.Nat.{not-suc-le-zero}
 use native.Mathlib.Numerals.{add-one}
@@ -15,7 +15,7 @@ use Rattle.plan.specs.Answer.{Answer, fine}
 use Rattle.plan.proofs.SliceLaws.{all-same}
 use Rattle.frame.specs.Frame.{frameLength}
 use Rattle.frame.specs.Texts.{framesFrom}
-use Rattle.frame.proofs.RunLaws.{run-back, run-invariant}
+use Rattle.frame.proofs.RunLaws.{run-back, run-split, run-stops}
 
 -- ---- an array in which d stands for an entry that is not used
 
@@ -38,34 +38,34 @@ module _ {E : Type 0} (d : E) where
   same-set : (i : ℕ) (xs : List E) (x : E) → SameBelow i xs (set xs i x)
   same-set i xs x k lt = sym (getD-set-other xs i k x d (omega arith))
 
-  -- the first i entries of ys, and nothing behind them
-  front : List E → ℕ → List E
-  front ys zero = replicate (length ys) d
-  front ys (suc i) = set (front ys i) i (getD ys i d)
+  -- an array of n places with the first i entries of ys, and nothing behind them
+  pub front : ℕ → List E → ℕ → List E
+  front n ys zero = replicate n d
+  front n ys (suc i) = set (front n ys i) i (getD ys i d)
 
-  front-length : (ys : List E) (i : ℕ) → length (front ys i) ≡ length ys
+  front-length : (n : ℕ) (ys : List E) (i : ℕ) → length (front n ys i) ≡ n
   unfolding front
-  front-length ys zero = length-replicate (length ys) d
-  front-length ys (suc i) = length-set (front ys i) i (getD ys i d) ∙ front-length ys i
+  front-length n ys zero = length-replicate n d
+  front-length n ys (suc i) = length-set (front n ys i) i (getD ys i d) ∙ front-length n ys i
 
-  front-same : (ys : List E) (i : ℕ) → i ≤ length ys → SameBelow i (front ys i) ys
+  pub front-same : (n : ℕ) (ys : List E) (i : ℕ) → i ≤ n → SameBelow i (front n ys i) ys
   unfolding front
-  front-same ys zero le k lt = absurd (not-suc-le-zero lt)
-  front-same ys (suc i) le k lt =
+  front-same n ys zero le k lt = absurd (not-suc-le-zero lt)
+  front-same n ys (suc i) le k lt =
       by-cases (ℕ-discrete k i)
-      (λ e. rw e (getD-set-same (front ys i) i (getD ys i d) d (rw (front-length ys i) le)))
-      (λ ne. getD-set-other (front ys i) i k (getD ys i d) d ne ∙ front-same ys i (omega arith) k (omega arith))
+      (λ e. rw e (getD-set-same (front n ys i) i (getD ys i d) d (rw (front-length n ys i) le)))
+      (λ ne. getD-set-other (front n ys i) i k (getD ys i d) d ne ∙ front-same n ys i (omega arith) k (omega arith))
 
-  front-unused : (ys : List E) (i : ℕ) → UnusedFrom i (front ys i)
+  front-unused : (n : ℕ) (ys : List E) (i : ℕ) → UnusedFrom i (front n ys i)
   unfolding front
-  front-unused ys zero = λ k _. all-same (length ys) d k
-  front-unused ys (suc i) = unused-next i (front ys i) (getD ys i d) (front-unused ys i)
+  front-unused n ys zero = λ k _. all-same n d k
+  front-unused n ys (suc i) = unused-next i (front n ys i) (getD ys i d) (front-unused n ys i)
 
-  front-all : (ys : List E) (i : ℕ) → i ≤ length ys → UnusedFrom i ys → front ys i ≡ ys
-  front-all ys i le unused =
-      ext-getD d (front ys i) ys (front-length ys i) (λ k _. by-cases (decLt k i)
-      (front-same ys i le k)
-      (λ ge. front-unused ys i k (omega arith) ∙ sym (unused k (omega arith))))
+  pub front-all : (n : ℕ) (ys : List E) (i : ℕ) → length ys ≡ n → i ≤ n → UnusedFrom i ys → front n ys i ≡ ys
+  front-all n ys i long le unused =
+      ext-getD d (front n ys i) ys (front-length n ys i ∙ sym long) (λ k _. by-cases (decLt k i)
+      (front-same n ys i le k)
+      (λ ge. front-unused n ys i k (omega arith) ∙ sym (unused k (omega arith))))
 
 module _ {E : Type 0} (d : E) (n : ℕ) (Good : List E → ℕ → E → Type 0) (text : ℕ → E → List ℕ) where
   -- t says the first i entries of xs and then s; they are good, and nothing behind them is used
@@ -104,19 +104,24 @@ module _ {E : Type 0} (d : E) (n : ℕ) (Good : List E → ℕ → E → Type 0)
 module _
     {P E : Type 0} (read : P → ℕ → List ℕ → Answer P) (m : ℕ) (after : P → List ℕ → Answer P) (put : List E → P) (d : E) (n : ℕ)
     (text : ℕ → E → List ℕ) where
-  -- the texts of the entries of ys fill the array as ys, where each is read behind the earlier ones
-  pub fill-back :
-      (ys : List E) (k : ℕ) (r : List ℕ) → length ys ≡ n → k ≤ n → UnusedFrom d k ys →
+  -- the texts of the first k of N entries fill the array with them, where each is read behind the earlier ones; then the others are read
+  pub fill-front :
+      (ys : List E) (N k : ℕ) (r : List ℕ) → k ≤ N → k ≤ n →
       ((i : ℕ) → i < k → (xs : List E) → SameBelow d i xs ys → (r : List ℕ) →
       read (put xs) i (text i (getD ys i d) ++ r) ≡ fine (put (set xs i (getD ys i d)))) →
       ((i : ℕ) → length (text i (getD ys i d)) ≡ frameLength m) →
-      framesFrom read m after k 0 (put (replicate n d)) (joinBelow k (λ i. text i (getD ys i d)) ++ r) ≡ after (put ys) r
+      framesFrom read m after N 0 (put (replicate n d)) (joinBelow k (λ i. text i (getD ys i d)) ++ r)
+      ≡ framesFrom read m after (N - k) k (put (front d n ys k)) r
   unfolding front
-  fill-back ys k r long le unused reads frame =
-      rw (← long) (run-back read m after k (λ i. put (front d ys i)) (λ i. text i (getD ys i d)) r
-      (λ i lt. reads i lt (front d ys i) (front-same d ys i (omega arith)))
+  fill-front ys N k r few le reads frame =
+      let s = joinBelow k (λ i. text i (getD ys i d)) ++ r in
+      let all : N ≡ k + (N - k) = omega arith in
+      let z : 0 + k ≡ k = omega arith in
+      ap (λ (j : ℕ). framesFrom read m after j 0 (put (replicate n d)) s) all
+      ∙ run-split read m after k (N - k) 0 (put (replicate n d)) s
+      ∙ rw z (run-back read m (framesFrom read m after (N - k) k) k (λ i. put (front d n ys i)) (λ i. text i (getD ys i d)) r
+      (λ i lt. reads i lt (front d n ys i) (front-same d n ys i (omega arith)))
       (λ i lt. frame i))
-      ∙ ap (λ (xs : List E). after (put xs) r) (front-all d ys k (omega arith) unused)
 
   module _ (Good : List E → ℕ → E → Type 0) where
     -- s begins with the text of a good entry, which is read into place i behind the entries xs
@@ -138,15 +143,19 @@ module _
           rw z (filled-next d n Good text earlier t i xs x (drop (frameLength m) s) lt (rw says at f) good),
         )
 
-    -- a good run has filled the array, and its text says the entries
-    pub fill-is :
-        ByEarlier d Good → ((xs : List E) (i : ℕ) (s : List ℕ) → read (put xs) i s .fault ≡ 0 → Entry xs i s) → (k : ℕ) → k ≤ n →
-        (s : List ℕ) → framesFrom read m after k 0 (put (replicate n d)) s .fault ≡ 0 →
-        (xs : List E) × (r : List ℕ) × Filled d n Good text s k xs r
-        × (framesFrom read m after k 0 (put (replicate n d)) s ≡ after (put xs) r)
-    fill-is earlier reads k le s e =
-        let done = run-invariant read m after (SoFar s) n
-        (λ i p u f lt z. so-far-next earlier s i p u f lt (reads (f .0) i u (rw (f .1) at z)))
-        k 0 (put (replicate n d)) s (replicate n d, refl, filled-start d n Good text s) (omega arith) e in
+    -- A run of k entries stops at its first faulty frame, or goes on to what follows them. The frames before say entries, which fill the array.
+    pub fill-stops :
+        {C : Type 0} → ByEarlier d Good → ((xs : List E) (i : ℕ) (s : List ℕ) → read (put xs) i s .fault ≡ 0 → Entry xs i s) →
+        (k : ℕ) → k ≤ n → (s : List ℕ) →
+        ((i : ℕ) (xs : List E) (r : List ℕ) → i < k → Filled d n Good text s i xs r → ¬ (read (put xs) i r .fault ≡ 0) →
+        framesFrom read m after k 0 (put (replicate n d)) s ≡ read (put xs) i r → C) →
+        ((xs : List E) (r : List ℕ) → Filled d n Good text s k xs r →
+        framesFrom read m after k 0 (put (replicate n d)) s ≡ after (put xs) r → C) →
+        C
+    fill-stops earlier reads k le s stops ends =
         let z : 0 + k ≡ k = omega arith in
-        (done .2 .0, done .1, rw z at (done .2 .2), rw (done .2 .1) at (done .3))
+        run-stops read m after (SoFar s) n
+        (λ i p u f lt y. so-far-next earlier s i p u f lt (reads (f .0) i u (rw (f .1) at y)))
+        k 0 (put (replicate n d)) s (replicate n d, refl, filled-start d n Good text s) (omega arith)
+        (λ i p r lt f no e. stops i (f .0) r (omega arith) (f .2) (rw (f .1) at no) (rw (f .1) at e))
+        (λ p r f e. ends (f .0) r (rw z at (f .2)) (rw (f .1) at e))

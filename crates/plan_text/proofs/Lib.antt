@@ -2,7 +2,9 @@
 pub mod LengthLaws
 pub mod FilledLaws
 pub mod EntryLaws
+pub mod EntryReadLaws
 pub mod ReadBackLaws
+pub mod FirstFaultLaws
 pub mod OneTextLaws
 pub mod CutLaws
 pub mod WriteLaws

@@ -1,26 +1,33 @@
--- Theorems on plan texts: they read back exactly, and each plan has one text only. Read the statements; only the checker need believe the
--- proofs.
+-- Theorems on plan texts: they read back exactly, each plan has one text only, and every other text gets the number of its first faulty
+-- frame. Read the statements; only the checker need believe the proofs.
 use mathlib.Core.Path.{_≡_, sym, ap, _∙_}
 use mathlib.Core.Logic.{_↔_}
-use mathlib.Core.List.{List, _++_}
-use Prim.Native.Nat.{ℕ, _≤_}
+use mathlib.Core.Bool.{true}
+use mathlib.Core.List.{List, _∷_, _++_}
+use Prim.Native.Nat.{ℕ, suc, _≤_, _<_}
 use native.Mathlib.Omega.{arith}
 use lib.ListN.{length, take}
 use Rattle.plan.specs.declared.Plan.{Plan}
+use Rattle.plan.specs.declared.Refusal.{Refusal}
 use Rattle.plan.specs.declared.Judged.{Judged}
 use Rattle.plan.specs.declared.Judged.the-variants as judged
-use Rattle.plan.specs.Refusal.{judgedNumber}
+use Rattle.plan.specs.Refusal.{refusalNumber, judgedNumber}
 use Rattle.plan.specs.Answer.{Answer, fine}
-use Rattle.plan.specs.Plan.{zeroPlan}
+use Rattle.plan.specs.Plan.{zeroLetter, zeroConstraint, zeroPlan, letterAt, constraintAt}
 use Rattle.plan.specs.WellFormed.{WellFormed}
-use Rattle.plan.proofs.RefusalLaws.{fine-is}
+use Rattle.plan.proofs.RefusalLaws.{fine-is, refused-is, no-refusal}
+use Rattle.frame.specs.Frame.{Bytes, frameText, whole}
+use Rattle.frame.proofs.FrameLaws as frames
 use Rattle.frame.proofs.RunLaws.{filled-front}
 use Rattle.plan_text.specs.declared.PlanRead.{PlanRead}
 use Rattle.plan_text.specs.PlanText.{planText, writePlan, writePlanLeaves}
 use Rattle.plan_text.specs.ReadPlan.{planReadAnswer, readPlan}
+use Rattle.plan_text.specs.FirstFault.{FineFront, FirstFault}
 use Rattle.plan_text.proofs.LengthLaws.{plan-length, longest, longest-fine}
 use Rattle.plan_text.proofs.ReadBackLaws.{read-back}
-use Rattle.plan_text.proofs.OneTextLaws.{one-text}
+use Rattle.plan_text.proofs.EntryLaws.{front-of, well-formed-of}
+use Rattle.plan_text.proofs.FirstFaultLaws.{fault-is}
+use Rattle.plan_text.proofs.OneTextLaws.{one-text, first-fault}
 use Rattle.plan_text.proofs.CutLaws.{nothing-left}
 use Rattle.plan_text.proofs.RefusedLaws.{refused}
 use Rattle.plan_text.proofs.WrittenLaws.{written-fine}
@@ -42,6 +49,34 @@ read-fine-exactly t r e six sixty-four = (
       (h .0, h .1),
   λ h. fine-is (r .answer) (ap (λ (a : Answer Plan). a .fault) (e ∙ read-exactly t (r .plan) .1 (h .0, h .1, six, sixty-four))),
 )
+
+-- Every other text is refused, and the number is that of its first faulty frame, whatever follows: a text is refused with n exactly where
+-- `FirstFault` (specs/FirstFault.antt) says so.
+pub refused-exactly : (t : List ℕ) (n : ℕ) → ¬ (n ≡ 0) → (readPlan t .fault ≡ n) ↔ FirstFault t n
+refused-exactly t n ne = (first-fault t n ne, fault-is t n)
+
+-- the same of what `read_plan` hands back, by its promise
+pub read-refused-exactly :
+    (t : List ℕ) (r : PlanRead) → planReadAnswer r ≡ readPlan t → (k : Refusal) →
+    (r .answer ≡ judged.Refused k) ↔ FirstFault t (refusalNumber k)
+read-refused-exactly t r e k =
+    let number = ap (λ (a : Answer Plan). a .fault) e in (
+      λ f. first-fault t (refusalNumber k) (no-refusal k) (sym number ∙ ap judgedNumber f),
+      λ f. refused-is (r .answer) k (number ∙ fault-is t (refusalNumber k) f),
+    )
+
+-- What `FirstFault` rests on: a text begins with a whole frame of a kind exactly where it begins with the text of that kind and n bytes ..
+pub whole-exactly :
+    (kind n : ℕ) (s : List ℕ) → kind < 256 →
+    (whole kind (suc n) s ≡ true)
+    ↔ ((bs : List ℕ) × (r : List ℕ) × (length bs ≡ n) × Bytes bs × (s ≡ frameText (kind ∷ bs) ++ r))
+whole-exactly = frames.whole-exactly
+
+-- .. and a plan is fine to its last frame exactly where it is well formed, its unused entries aside
+pub front-exactly :
+    (p : Plan) → ((i : ℕ) → p .letters ≤ i → i < 6 → letterAt p i ≡ zeroLetter) →
+    ((j : ℕ) → p .constraints ≤ j → j < 64 → constraintAt p j ≡ zeroConstraint) → FineFront p (p .letters) (p .constraints) ↔ WellFormed p
+front-exactly p no-letter no-constraint = (λ f. well-formed-of p f no-letter no-constraint, front-of p)
 
 -- a text that is refused is refused with 1, 2, 3 or 4, and the plan's place is all zero
 pub refused-zero : (t : List ℕ) → ¬ (readPlan t .fault ≡ 0) → (readPlan t .fault ≤ 4) × (readPlan t .value ≡ zeroPlan)

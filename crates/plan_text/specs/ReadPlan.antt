@@ -1,5 +1,5 @@
--- Definitions: the plan that a text says, or the number of its first faulty frame. A reader must believe this file; that it says a plan for
--- just the texts of well-formed plans, and that plan, is `read-exactly` of proofs/PlanTextTheorems.antt.
+-- Definitions: the plan that a text says, or the number of its first faulty frame. A reader must believe this file, or only `read-exactly` and
+-- `refused-exactly` of proofs/PlanTextTheorems.antt, which say of every text what it is read as, without this file.
 use mathlib.Core.Bool.{_&&_}
 use mathlib.Core.List.{List}
 use Prim.Native.Nat.{ℕ, _+_, _*_}
