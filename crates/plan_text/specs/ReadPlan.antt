@@ -1,5 +1,5 @@
--- Definitions: the plan that a text says, or the number of its first faulty frame. A reader must believe this file, or only `read-exactly` and
--- `refused-exactly` of proofs/PlanTextTheorems.antt, which say of every text what it is read as, without this file.
+-- Definitions: the plan that a text says, or the number of its first faulty frame. A reader must believe this file, or only `read-exactly`,
+-- `refused-exactly` and `refused-zero` of proofs/PlanTextTheorems.antt: together they say of every text what is read from it.
 use mathlib.Core.Bool.{_&&_}
 use mathlib.Core.List.{List}
 use Prim.Native.Nat.{ℕ, _+_, _*_}

@@ -11,7 +11,7 @@ use lib.Dec.{leb, eqb, lit<}
 use lib.ListN.{length, getD, drop, length-append}
 use lib.Seq.{drop-drop}
 use Rattle.network.specs.Mask.{joinBelow}
-use Rattle.network.proofs.Booleans.{and-left, and-right, and-make, leb-yes, leb-is}
+use Rattle.network.proofs.Booleans.{by-test, and-left, and-right, and-make, leb-yes, leb-no, leb-is, eqb-is, differs}
 use Rattle.network.proofs.JoinLaws.{join-cong, join-length, drop-to-piece}
 use Rattle.plan.specs.declared.Refusal.the-variants as refusal
 use Rattle.plan.specs.Refusal.{refusalNumber}
@@ -277,3 +277,23 @@ unfolding readNodes
 nodes-refused t =
     then-each Refused (readTreeHead t) _ (head-refused t) (λ n.
     run-each node-reader 4 (atEnd 0 refusal.TreeText) Refused (λ n k. node-refused n) end-refused n 0 n (drop (frameLength 2) t))
+
+-- ---- the call of reading, by the buffer's length
+
+pub reads-with-room : (t xs : List ℕ) → mostBytes ≤ length xs → readTree t xs ≡ readNodes t
+unfolding readTree answered first unless
+reads-with-room t xs long =
+    by-test (eqb (readNodes t .fault) 0)
+    (λ y. let r = reads t (eqb-is (readNodes t .fault) 0 y) in reads-whole t (valueAt t 1) xs (r .counted) long ∙ sym (r .counted))
+    (λ z. rw (nodes-refused t (differs (readNodes t .fault) 0 z), leb-yes mostBytes (length xs) long))
+
+pub reads-without-room : (t xs : List ℕ) → length xs < mostBytes → readTree t xs ≡ refused 0 refusal.Buffer
+unfolding readTree answered first unless
+reads-without-room t xs short = rw (leb-no mostBytes (length xs) (λ h. omega arith))
+
+-- a fault other than 10 has room
+pub room-of : (t xs : List ℕ) → ¬ (readTree t xs .fault ≡ refusalNumber refusal.Buffer) → mostBytes ≤ length xs
+room-of t xs other =
+    by-cases (decLt (length xs) mostBytes)
+    (λ short. absurd (other (ap (λ (x : Answer ℕ). x .fault) (reads-without-room t xs short))))
+    (λ long. omega arith)
