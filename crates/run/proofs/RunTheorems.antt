@@ -1,11 +1,12 @@
 -- Theorems on the crew's run (document 01, "The crew's run"). Read the statements; only the checker need believe the proofs.
 use mathlib.Core.Path.{_≡_, refl, sym, ap, _∙_}
+use mathlib.Core.Logic.{_↔_}
 use mathlib.Core.List.{List, [], _∷_, _++_}
 use mathlib.Core.Bool.{true, false}
-use Prim.Native.Nat.{ℕ}
+use Prim.Native.Nat.{ℕ, _≤_}
 use lib.Dec.{eqb}
 use Rattle.network.specs.Network.{Network}
-use Rattle.network.specs.Game.{start}
+use Rattle.network.specs.Game.{Move, Outcome, start}
 use Rattle.network.specs.Tree.{Tree, done, node}
 use Rattle.network.proofs.Booleans.{by-test, eqb-no}
 use Rattle.plan.specs.declared.Plan.{Plan}
@@ -20,6 +21,7 @@ use Rattle.run.specs.declared.History.{History}
 use Rattle.run.specs.History.{historyFine, historyFault, reportsIn, longer}
 use Rattle.run.specs.Run.{Told, instruct, complete, refuse, mayReport, instructionAt, toldFrom, unlessFault, showAnswer}
 use Rattle.run.specs.Run.{reportFault, reportAnswer}
+use Rattle.run.proofs.ReportLaws as report-laws
 use Rattle.run.proofs.ToldLaws.{told-of-described}
 
 -- the fault of what is told: 0 for an instruction and for done
@@ -63,6 +65,11 @@ module _ (p : Plan) (wf : WellFormed p) (bs : List ℕ) (t : Tree) (d : Describe
   shows-fine fine h y = shows h ∙ rw (fine, y)
 
 -- ---- Reporting
+
+-- A report may be made at an instruction exactly where it is an outcome of that move: it names none but conditions that the move's points
+-- disclose. (A well-formed plan has at most six letters.)
+pub may-is : (p : Plan) → p .letters ≤ 6 → (m : Move) (o : ℕ) → (mayReport p m o ≡ true) ↔ Outcome (networkOf p) m o
+may-is = report-laws.may-is
 
 -- told at no mask: never a refusal
 root-fine : (p : Plan) (t : Tree) → toldFault (instructionAt p t []) ≡ 0
