@@ -22,7 +22,8 @@ use Rattle.plan.specs.Answer.{Answer, fine}
 use Rattle.plan.specs.Plan.{networkOf}
 use Rattle.plan.specs.WellFormed.{WellFormed}
 use Rattle.frame.specs.Hex.{hexDigit}
-use Rattle.frame.specs.Frame.{faultText, refusalText}
+use Rattle.frame.specs.Frame.{faultText}
+use Rattle.frame.specs.Texts.{refusalText}
 use Rattle.tree.specs.Nodes.{nodeCount, mostBytes, legalLength}
 use Rattle.tree.specs.Trees.{treeBytes}
 use Rattle.tree.proofs.NodeLaws.{legal-make}
@@ -35,7 +36,8 @@ use Rattle.tree_text.proofs.TreeTextTheorems.{at-most-1724}
 use Rattle.search.proofs.AnswerLaws.{answered-so}
 use Rattle.search.proofs.SearchTheorems.{fault-is, front-is-tree, fine-exactly, eleven-exactly}
 use Rattle.answer_text.specs.declared.AnswerText.{AnswerText}
-use Rattle.answer_text.specs.AnswerText.{planIn, lent, treeOf, printed, planAnswer, answerText, holding}
+use Rattle.answer_text.specs.AnswerText.{planIn, lent, treeOf, printed, planAnswer, answerText}
+use Rattle.answer_text.specs.Holding.{holding}
 use Rattle.answer_text.proofs.CodeLaws.{blank-length}
 
 -- The first 1,026 bytes of the input are the text of the well-formed plan p. (A record's arrays have six and 64 places by their types.)

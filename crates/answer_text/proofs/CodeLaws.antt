@@ -13,24 +13,29 @@ use Rattle.plan.specs.declared.Plan.{Plan}
 use Rattle.plan.specs.declared.Refusal.{Refusal}
 use Rattle.plan.specs.declared.Judged.the-variants as judged
 use Rattle.plan.specs.Refusal.{refusalNumber, judgedNumber}
-use Rattle.plan.specs.Answer.{Answer, fine, refused, filled, putAt}
+use Rattle.plan.specs.Answer.{Answer, fine, refused}
+use Rattle.plan.specs.Faults.{filled, putAt}
 use Rattle.plan.proofs.RefusalLaws.{no-refusal, some-number}
-use Rattle.frame.specs.Frame.{faultText, refusalText}
+use Rattle.frame.specs.Frame.{faultText}
 use Rattle.frame.specs.declared.Written.the-variants as written
-use Rattle.frame.specs.Texts.{writtenAnswer}
+use Rattle.frame.specs.Texts.{refusalText}
+use Rattle.frame.specs.Written.{writtenAnswer}
 use Rattle.frame.proofs.RunLaws.{filled-is}
 use Rattle.tree.specs.Nodes.{mostBytes, legalLength}
 use Rattle.tree.proofs.NodeLaws.{legal-make}
 use Rattle.plan_text.specs.declared.PlanRead.{PlanRead}
-use Rattle.plan_text.specs.ReadPlan.{planReadAnswer}
-use Rattle.tree_text.specs.TreeText.{treeText, writeTree, writeTreeLeaves}
+use Rattle.plan_text.specs.PlanRead.{planReadAnswer}
+use Rattle.tree_text.specs.TreeText.{treeText}
+use Rattle.tree_text.specs.WriteTree.{writeTree, writeTreeLeaves}
 use Rattle.tree_text.proofs.TreeTextLaws.{writes}
 use Rattle.tree_text.proofs.TreeTextTheorems.{at-most-1724}
 use Rattle.search.specs.declared.Searched.{Searched}
 use Rattle.search.specs.declared.Searched.the-variants as searched
-use Rattle.search.specs.Search.{searchedAnswer, searchAnswer, searchLeaves}
+use Rattle.search.specs.Search.{searchAnswer, searchLeaves}
+use Rattle.search.specs.Searched.{searchedAnswer}
 use Rattle.search.proofs.SearchTheorems.{count-bounds, same-length, fault-is}
-use Rattle.answer_text.specs.AnswerText.{planIn, lent, planAnswer, answerText, holding}
+use Rattle.answer_text.specs.AnswerText.{planIn, lent, planAnswer, answerText}
+use Rattle.answer_text.specs.Holding.{holding}
 
 -- ---- a text at the front of blank bytes
 

@@ -1,9 +1,9 @@
 -- Definitions: what the program prints for its input. A reader must believe this file.
 use mathlib.Core.Bool.{cond}
-use mathlib.Core.List.{List, _++_}
-use Prim.Native.Nat.{ℕ, _-_}
+use mathlib.Core.List.{List}
+use Prim.Native.Nat.{ℕ}
 use lib.Dec.{eqb}
-use lib.ListN.{length, take, replicate}
+use lib.ListN.{take, replicate}
 use Rattle.plan.specs.declared.Plan.{Plan}
 use Rattle.plan.specs.Answer.{Answer}
 use Rattle.frame.specs.Frame.{faultText}
@@ -11,7 +11,6 @@ use Rattle.tree.specs.Nodes.{mostBytes, firstNodes}
 use Rattle.plan_text.specs.ReadPlan.{readPlan}
 use Rattle.tree_text.specs.TreeText.{treeText}
 use Rattle.search.specs.Search.{searchAnswer, searchLeaves}
-use Rattle.answer_text.specs.declared.AnswerText.{AnswerText}
 
 -- the first 1,026 bytes of the input are judged as a plan
 abbrev pub planIn : List ℕ → Answer Plan
@@ -36,7 +35,3 @@ planAnswer p = printed (searchAnswer p lent .fault) (treeText (treeOf p))
 -- for an input of any bytes and length
 unfoldable pub answerText : List ℕ → List ℕ
 answerText input = printed (planIn input .fault) (planAnswer (planIn input .value))
-
--- a text at the front of 1,724 bytes, the length of the longest, and zeros behind it
-abbrev pub holding : List ℕ → AnswerText
-holding text = record { bytes = text ++ replicate (1724 - length text) 0; length = length text }

@@ -9,10 +9,11 @@ use search::Searched;
 ghost use mathlib.Core.Path.{_≡_};
 ghost use mathlib.Core.Bool.{true};
 ghost use lib.ListN.{length, replicate};
-ghost use Rattle.frame.specs.Frame.{refusalText};
+ghost use Rattle.frame.specs.Texts.{refusalText};
 ghost use Rattle.tree.specs.Nodes.{legalLength};
 ghost use Rattle.tree_text.specs.TreeText.{treeText};
-ghost use Rattle.answer_text.specs.AnswerText.{lent, planAnswer, answerText, holding};
+ghost use Rattle.answer_text.specs.AnswerText.{lent, planAnswer, answerText};
+ghost use Rattle.answer_text.specs.Holding.{holding};
 
 // A text: the first `length` of the bytes. Those behind it are zero.
 pub struct AnswerText {

@@ -9,21 +9,21 @@ use Rattle.plan.specs.Refusal.{refusalNumber, judgedNumber}
 use Rattle.plan.proofs.RefusalLaws.{some-number}
 use Rattle.frame.specs.declared.Written.{Written}
 use Rattle.frame.specs.declared.Written.the-variants as written
-use Rattle.frame.specs.Texts.{writtenAnswer}
+use Rattle.frame.specs.Written.{writtenAnswer}
 use Rattle.tree_text.specs.declared.TreeRead.{TreeRead}
 use Rattle.tree_text.specs.declared.TreeRead.the-variants as tree-read
-use Rattle.tree_text.specs.TreeText.{treeReadAnswer}
+use Rattle.tree_text.specs.TreeRead.{treeReadAnswer}
 use Rattle.search.specs.declared.Searched.{Searched}
 use Rattle.search.specs.declared.Searched.the-variants as searched
-use Rattle.search.specs.Search.{searchedAnswer}
+use Rattle.search.specs.Searched.{searchedAnswer}
 use Rattle.run.specs.declared.Shown.{Shown}
 use Rattle.run.specs.declared.Shown.the-variants as shown
-use Rattle.run.specs.Run.{shownTold}
+use Rattle.run.specs.Told.{shownTold}
 use Rattle.verdict.specs.declared.Found.{Found}
 use Rattle.verdict.specs.declared.Found.the-variants as found
 use Rattle.verdict.specs.declared.screen.Screened.{Screened}
 use Rattle.verdict.specs.declared.screen.Screened.the-variants as screen
-use Rattle.verdict.specs.Verdict.{saying, screenAnswer}
+use Rattle.verdict.specs.Answers.{saying, screenAnswer}
 use Rattle.answers.specs.Numbers.{faultNumber, numbered, answerNumber, toldNumber, fixedNumber, testNumber}
 
 -- a refusal's number, whatever stands beside it

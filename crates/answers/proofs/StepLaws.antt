@@ -5,7 +5,7 @@ use Prim.Native.Nat.{ℕ}
 use native.Mathlib.Omega.{arith}
 use borrow.Author.Tests.{le-leb}
 use lib.ListN.{length}
-use Rattle.plan.specs.Answer.{putAt}
+use Rattle.plan.specs.Faults.{putAt}
 
 pub nothing-put : (xs : List ℕ) → xs ≡ putAt xs 0 []
 nothing-put xs = rw (le-leb 0 (length xs) (omega arith))

@@ -4,8 +4,8 @@ use Prim.Native.Nat.{ℕ, _+_}
 use lib.Dec.{eqb}
 use Rattle.network.specs.Mask.{digit}
 use Rattle.plan.specs.Answer.{Answer}
-use Rattle.run.specs.Run.{Told, instruct, complete, refuse}
-use Rattle.verdict.specs.Verdict.{Fixed}
+use Rattle.run.specs.Told.{Told, instruct, complete, refuse}
+use Rattle.verdict.specs.Answers.{Fixed}
 
 -- a refusal: 7F00 (hexadecimal) and its number, like the frame 7F of a text
 abbrev pub faultNumber : ℕ → ℕ

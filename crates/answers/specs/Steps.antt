@@ -1,7 +1,7 @@
 -- Definitions: what a crew is told, and a step that it followed, as bytes. A reader must believe this file.
 use mathlib.Core.List.{List, [], _∷_}
 use Prim.Native.Nat.{ℕ}
-use Rattle.run.specs.Run.{Told, instruct, complete, refuse}
+use Rattle.run.specs.Told.{Told, instruct, complete, refuse}
 use Rattle.following.specs.declared.Step.{Step}
 
 -- the bytes of an instruction: slot, points, choices

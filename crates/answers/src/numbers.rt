@@ -9,11 +9,11 @@ use verdict::Found;
 use verdict::screen::Screened;
 ghost use mathlib.Core.Path.{_≡_};
 ghost use Rattle.plan.specs.Refusal.{refusalNumber, judgedNumber};
-ghost use Rattle.frame.specs.Texts.{writtenAnswer};
-ghost use Rattle.tree_text.specs.TreeText.{treeReadAnswer};
-ghost use Rattle.search.specs.Search.{searchedAnswer};
-ghost use Rattle.run.specs.Run.{shownTold};
-ghost use Rattle.verdict.specs.Verdict.{saying, screenAnswer};
+ghost use Rattle.frame.specs.Written.{writtenAnswer};
+ghost use Rattle.tree_text.specs.TreeRead.{treeReadAnswer};
+ghost use Rattle.search.specs.Searched.{searchedAnswer};
+ghost use Rattle.run.specs.Told.{shownTold};
+ghost use Rattle.verdict.specs.Answers.{saying, screenAnswer};
 ghost use Rattle.answers.specs.Numbers.{faultNumber, numbered, answerNumber, toldNumber, fixedNumber, testNumber};
 
 pub fn refused(r: Refusal) -> usize

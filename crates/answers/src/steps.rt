@@ -8,8 +8,8 @@ ghost use Prim.Native.Nat.{_+_, _≤_};
 ghost use lib.ListN.{length, getD};
 ghost use lib.Seq.{sets};
 ghost use Rattle.network.specs.Mask.{joinBelow};
-ghost use Rattle.plan.specs.Answer.{putAt};
-ghost use Rattle.run.specs.Run.{shownTold};
+ghost use Rattle.plan.specs.Faults.{putAt};
+ghost use Rattle.run.specs.Told.{shownTold};
 ghost use Rattle.following.specs.Following.{zeroStep};
 ghost use Rattle.answers.specs.Steps.{toldBytes, stepBytes};
 

@@ -1,11 +1,12 @@
 -- Theorem: document 01's cases K1 to K14. Read the statement in specs/Cases.antt; only the checker need believe the proof.
 use mathlib.Core.Path.{_≡_, refl}
-use Rattle.network.specs.Mask.{allBelow, anyBelow, joinBelow}
-use Rattle.plan.specs.Answer.{unless, first, answered, andThen}
+use Rattle.network.specs.Mask.{allBelow, joinBelow}
+use Rattle.network.specs.Below.{anyBelow}
+use Rattle.plan.specs.Faults.{unless, first, answered, andThen}
 use Rattle.plan.proofs.Cases as plans
 use Rattle.judge.specs.Judge.{headFine, takenBefore, letterFine, boundFine, constraintFine}
-use Rattle.frame.specs.Hex.{digitOf, pairOf, hexDigit}
-use Rattle.frame.specs.Frame.{byteAt, whole}
+use Rattle.frame.specs.Hex.{hexDigit}
+use Rattle.frame.specs.ReadFrame.{digitOf, pairOf, byteAt, whole}
 use Rattle.frame.specs.Texts.{frameFault, framesFrom, atEnd}
 use Rattle.frame.specs.Characters.{characters}
 use Rattle.plan_text.specs.ReadPlan.{readHead, readLetter, readConstraint, readPlan}

@@ -9,7 +9,7 @@ use Rattle.plan.specs.declared.Plan.{Plan}
 use Rattle.plan.specs.declared.Refusal.the-variants as refusal
 use Rattle.plan.specs.Refusal.{refusalNumber}
 use Rattle.plan.specs.Answer.{Answer, fine, refused}
-use Rattle.frame.specs.Frame.{refusalText}
+use Rattle.frame.specs.Texts.{refusalText}
 use Rattle.tree.specs.Nodes.{mostBytes, firstNodes}
 use Rattle.tree_text.specs.TreeText.{treeText}
 use Rattle.search.specs.Search.{searchFault, searchAnswer, searchLeaves}

@@ -13,7 +13,8 @@ use Rattle.checker.specs.Checker.{checkFault}
 use Rattle.verdict.specs.Verdict.{screened}
 use Rattle.run.specs.declared.History.{History}
 use Rattle.run.specs.History.{emptyHistory, historyOf}
-use Rattle.run.specs.Run.{Told, instruct, complete, showAnswer, reportAnswer}
+use Rattle.run.specs.Run.{showAnswer, reportAnswer}
+use Rattle.run.specs.Told.{Told, instruct, complete}
 use Rattle.answer_text.specs.AnswerText.{planIn, treeOf, answerText}
 
 -- the program prints this text for that input

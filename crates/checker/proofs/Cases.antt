@@ -4,13 +4,14 @@ use mathlib.Core.Path.{_≡_, refl}
 use mathlib.Core.List.{List, [], _∷_, _++_}
 use Prim.Native.Nat.{ℕ}
 use lib.ListN.{replicate}
-use Rattle.network.specs.Mask.{bit, mask, count, allBelow, anyBelow, submask}
+use Rattle.network.specs.Mask.{bit, mask, count, allBelow, submask}
+use Rattle.network.specs.Below.{anyBelow}
 use Rattle.network.specs.Network.{holds, projected, atMost, feasible, keeps}
 use Rattle.network.specs.Game.{start, after}
 use Rattle.network.specs.Search.{over}
 use Rattle.plan.specs.declared.Plan.{Plan}
 use Rattle.plan.specs.declared.Constraint.{Constraint}
-use Rattle.plan.specs.Answer.{unless, first}
+use Rattle.plan.specs.Faults.{unless, first}
 use Rattle.plan.specs.Plan.{signed, listed}
 use Rattle.plan.proofs.Cases.{letter, constraint, plan, record-of, k4, k5}
 use Rattle.judge.specs.Judge.{headFine, takenBefore, letterFine, letterUnused, letterEntry, lettersFine, boundFine, constraintFine, constraintUnused, constraintEntry, constraintsFine, planFault}

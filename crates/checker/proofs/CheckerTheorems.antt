@@ -10,8 +10,8 @@ use lib.ListN.{length}
 use Rattle.network.specs.Network.{Network}
 use Rattle.network.specs.Strategy.{ConditionScenario, Viable, Dynamic}
 use Rattle.network.specs.Game.{start, Over, Kept}
-use Rattle.network.specs.Tree.{Tree, Wins, play, strategyOf}
-use Rattle.network.specs.FirstMoves.{SameTree}
+use Rattle.network.specs.Tree.{Tree, play, strategyOf}
+use Rattle.network.specs.Walks.{Wins, SameTree}
 use Rattle.network.proofs.Booleans.{by-test, eqb-is, eqb-no}
 use Rattle.network.proofs.PathLaws.{same-strategy, ends, ends-over}
 use Rattle.network.proofs.Theorems.{tree-dynamic, tree-viable-exactly}
@@ -20,7 +20,7 @@ use Rattle.plan.specs.declared.Refusal.the-variants as refusal
 use Rattle.plan.specs.declared.Judged.{Judged}
 use Rattle.plan.specs.declared.Judged.the-variants as judged
 use Rattle.plan.specs.Refusal.{refusalNumber, judgedNumber}
-use Rattle.plan.specs.Answer.{first}
+use Rattle.plan.specs.Faults.{first}
 use Rattle.plan.specs.Plan.{networkOf}
 use Rattle.plan.specs.WellFormed.{WellFormed}
 use Rattle.plan.proofs.PlanTheorems.{is-network}
@@ -28,11 +28,11 @@ use Rattle.plan.proofs.RefusalLaws.{fine-is}
 use Rattle.judge.specs.Judge.{planFault}
 use Rattle.judge.proofs.WellFormedLaws.{fine-exactly}
 use Rattle.tree.specs.Nodes.{mostBytes, legalLength}
-use Rattle.tree.specs.Trees.{Describes, WellFormedBytes}
+use Rattle.tree.specs.Trees.{Describes}
 use Rattle.tree.proofs.NodeLaws.{legal-is}
 use Rattle.tree.proofs.TreeLaws.{unique}
 use Rattle.checker.specs.Checker.{checkFault}
-use Rattle.checker.proofs.FaultLaws.{described-legal, yes-or-seven, by-answer}
+use Rattle.checker.proofs.FaultLaws.{WellFormedBytes, described-legal, yes-or-seven, by-answer}
 
 module _ (p : Plan) (wf : WellFormed p) (bs : List ℕ) where
   abbrev net : Network

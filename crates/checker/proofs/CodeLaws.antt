@@ -19,7 +19,7 @@ use Rattle.plan.specs.declared.Plan.{Plan}
 use Rattle.plan.specs.declared.Refusal.{Refusal}
 use Rattle.plan.specs.declared.Refusal.the-variants as refusal
 use Rattle.plan.specs.Refusal.{refusalNumber}
-use Rattle.plan.specs.Answer.{unless, first}
+use Rattle.plan.specs.Faults.{unless, first}
 use Rattle.plan.specs.Plan.{networkOf}
 use Rattle.plan.specs.Letters.{heardBy}
 use Rattle.plan.specs.WellFormed.{WellFormed}
@@ -27,8 +27,8 @@ use Rattle.plan.proofs.RefusalLaws.{some-number}
 use Rattle.plan.proofs.OutcomeLaws.{submasks-are-outcomes}
 use Rattle.judge.specs.Judge.{planFault}
 use Rattle.tree.specs.declared.Node.{Node}
-use Rattle.tree.specs.Nodes.{legalLength, nodeCount, nodeAt, fromNode}
-use Rattle.tree.specs.Trees.{moveOf}
+use Rattle.tree.specs.Nodes.{legalLength, nodeCount, nodeAt}
+use Rattle.tree.specs.Parts.{fromNode, moveOf}
 use Rattle.game.specs.declared.Position.{Position}
 use Rattle.game.specs.Position.{stateOf, Proper, isLegal}
 use Rattle.game.proofs.LegalLaws.{legal-exactly}

@@ -9,10 +9,12 @@ use native.Mathlib.Omega.{arith}
 use native.Mathlib.Nat.{not-suc-le-zero}
 use lib.ListN.{length, drop}
 use lib.Seq.{drop-at}
-use Rattle.network.specs.Mask.{allBelow, sumBelow, joinBelow}
+use Rattle.network.specs.Mask.{allBelow, joinBelow}
+use Rattle.network.specs.Below.{sumBelow}
 use Rattle.network.specs.Network.{Network}
 use Rattle.network.specs.Game.{State, Move, outcomes, outcomeAt, after, kept, Kept}
-use Rattle.network.specs.Tree.{Tree, done, node, Sound, nodes, pointsLeft}
+use Rattle.network.specs.Tree.{Tree, done, node, Sound}
+use Rattle.network.specs.Sizes.{nodes, pointsLeft}
 use Rattle.network.proofs.BelowLaws.{all-at, all-make}
 use Rattle.network.proofs.JoinLaws.{join-lengths}
 use Rattle.network.proofs.GameLaws.{Inside, outcome-at-is, outcome-numbered, after-inside, fewer-left}

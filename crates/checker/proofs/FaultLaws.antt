@@ -12,20 +12,21 @@ use lib.Seq.{drop-length}
 use Rattle.network.specs.Network.{Network}
 use Rattle.network.specs.Strategy.{Viable}
 use Rattle.network.specs.Game.{start}
-use Rattle.network.specs.Tree.{Tree, done, node, Sound, Shaped, strategyOf, nodes}
+use Rattle.network.specs.Tree.{Tree, done, node, Sound, Shaped, strategyOf}
+use Rattle.network.specs.Sizes.{nodes}
 use Rattle.network.proofs.Booleans.{by-test, clash, eqb-yes, eqb-is}
 use Rattle.network.proofs.GameLaws.{all-left, start-inside}
 use Rattle.network.proofs.Theorems.{tree-viable-exactly}
 use Rattle.plan.specs.declared.Plan.{Plan}
 use Rattle.plan.specs.declared.Refusal.the-variants as refusal
 use Rattle.plan.specs.Refusal.{refusalNumber}
-use Rattle.plan.specs.Answer.{unless, first}
+use Rattle.plan.specs.Faults.{unless, first}
 use Rattle.plan.specs.Plan.{networkOf}
 use Rattle.plan.specs.WellFormed.{WellFormed}
 use Rattle.plan.proofs.PlanTheorems.{is-network, at-most-191}
 use Rattle.judge.proofs.WellFormedLaws.{fine-exactly}
 use Rattle.tree.specs.Nodes.{legalLength, nodeCount}
-use Rattle.tree.specs.Trees.{treeBytes, Describes, WellFormedBytes}
+use Rattle.tree.specs.Trees.{treeBytes, Describes}
 use Rattle.tree.proofs.NodeLaws.{legal-is, legal-make}
 use Rattle.tree.proofs.TreeLaws.{tree-length}
 use Rattle.checker.specs.declared.Checked.{Checked}
@@ -33,6 +34,11 @@ use Rattle.checker.specs.declared.Checked.the-variants as checked
 use Rattle.checker.specs.Checker.{subtreeAt, treeFault, checkFault}
 use Rattle.checker.proofs.CompleteLaws.{allKept, kept-exactly, complete}
 use Rattle.checker.proofs.FoundLaws.{found}
+
+-- Well-formed bytes: they describe some tree. (There is one only: `one-tree` of the checker's theorems.)
+pub record WellFormedBytes (net : Network) (bs : List ℕ) : Type 0 where
+  pub tree : Tree
+  pub described : Describes net bs tree
 
 no-bytes : (bs : List ℕ) → length bs ≡ 0 → bs ≡ []
 no-bytes bs e = subst (λ (n : ℕ). drop n bs ≡ []) e (drop-length bs)

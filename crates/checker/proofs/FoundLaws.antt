@@ -11,10 +11,12 @@ use native.Mathlib.Decide.{decLt}
 use lib.Dec.{ltb}
 use lib.ListN.{length, drop}
 use lib.Seq.{drop-at}
-use Rattle.network.specs.Mask.{sumBelow, joinBelow, rank}
+use Rattle.network.specs.Mask.{joinBelow}
+use Rattle.network.specs.Below.{sumBelow, rank}
 use Rattle.network.specs.Network.{Network}
 use Rattle.network.specs.Game.{State, hears, Legal, outcomes, outcomeAt, after, kept}
-use Rattle.network.specs.Tree.{Tree, done, node, Sound, nodes}
+use Rattle.network.specs.Tree.{Tree, done, node, Sound}
+use Rattle.network.specs.Sizes.{nodes}
 use Rattle.network.specs.Search.{over}
 use Rattle.network.proofs.Booleans.{by-test, ltb-yes, ltb-no}
 use Rattle.network.proofs.BelowLaws.{sum-cong}

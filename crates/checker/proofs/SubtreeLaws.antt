@@ -10,7 +10,7 @@ use lib.Dec.{leb}
 use lib.ListN.{length, drop, length-drop}
 use Rattle.network.specs.Network.{Network}
 use Rattle.network.specs.Game.{State, Move, Legal, outcomes, outcomeAt, after, kept}
-use Rattle.network.specs.Tree.{pointsLeft}
+use Rattle.network.specs.Sizes.{pointsLeft}
 use Rattle.network.specs.Search.{over}
 use Rattle.network.proofs.Booleans.{by-test, and-left, and-right, leb-yes, leb-is}
 use Rattle.network.proofs.GameLaws.{Inside, after-inside, fewer-left}
@@ -18,7 +18,7 @@ use Rattle.plan.specs.declared.Plan.{Plan}
 use Rattle.plan.specs.Plan.{networkOf}
 use Rattle.plan.specs.WellFormed.{WellFormed}
 use Rattle.tree.specs.Nodes.{nodeAt}
-use Rattle.tree.specs.Trees.{moveOf}
+use Rattle.tree.specs.Parts.{moveOf}
 use Rattle.game.specs.Position.{isLegal}
 use Rattle.game.proofs.LegalLaws.{legal-exactly}
 use Rattle.checker.specs.declared.Checked.{Checked}

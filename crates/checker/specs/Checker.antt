@@ -6,16 +6,16 @@ use Prim.Native.Nat.{ℕ, zero, suc, _+_}
 use lib.Dec.{eqb}
 use lib.ListN.{length}
 use Rattle.network.specs.Game.{State, start, outcomes, outcomeAt, after, kept}
-use Rattle.network.specs.Tree.{pointsLeft}
+use Rattle.network.specs.Sizes.{pointsLeft}
 use Rattle.network.specs.Search.{over}
 use Rattle.plan.specs.declared.Plan.{Plan}
 use Rattle.plan.specs.declared.Refusal.the-variants as refusal
 use Rattle.plan.specs.Refusal.{refusalNumber}
-use Rattle.plan.specs.Answer.{unless, first}
+use Rattle.plan.specs.Faults.{unless, first}
 use Rattle.plan.specs.Plan.{networkOf}
 use Rattle.judge.specs.Judge.{planFault}
-use Rattle.tree.specs.Nodes.{legalLength, nodeCount, nodeAt, hasNode, fromNode}
-use Rattle.tree.specs.Trees.{moveOf}
+use Rattle.tree.specs.Nodes.{legalLength, nodeCount, nodeAt}
+use Rattle.tree.specs.Parts.{hasNode, fromNode, moveOf}
 use Rattle.game.specs.Position.{isLegal}
 use Rattle.checker.specs.declared.Checked.{Checked}
 use Rattle.checker.specs.declared.Checked.the-variants as checked

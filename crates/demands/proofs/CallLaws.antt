@@ -11,12 +11,13 @@ use Rattle.network.specs.Mask.{bit}
 use Rattle.network.specs.Network.{Network}
 use Rattle.network.specs.Game.{start, Move, Outcome}
 use Rattle.network.specs.Tree.{Tree, done, node}
-use Rattle.network.specs.Crew.{Step, Follows, AtEnd}
+use Rattle.network.specs.Crew.{Step}
+use Rattle.network.specs.Walks.{Follows, AtEnd}
 use Rattle.network.proofs.Booleans.{by-test, eqb-no}
 use Rattle.network.proofs.BelowLaws.{count-le}
 use Rattle.network.proofs.StepsLaws.{steps-length}
 use Rattle.plan.specs.declared.Plan.{Plan}
-use Rattle.plan.specs.Answer.{unless}
+use Rattle.plan.specs.Faults.{unless}
 use Rattle.plan.specs.Plan.{networkOf}
 use Rattle.plan.specs.WellFormed.{WellFormed}
 use Rattle.plan.proofs.PlanTheorems.{is-network}
@@ -24,12 +25,14 @@ use Rattle.tree.specs.Trees.{Describes}
 use Rattle.checker.specs.Checker.{checkFault}
 use Rattle.run.specs.declared.History.{History}
 use Rattle.run.specs.History.{historyOf, emptyHistory}
-use Rattle.run.specs.Run.{Told, instruct, complete, mayReport, instructionAt, showAnswer, reportFault, reportAnswer}
+use Rattle.run.specs.Run.{showAnswer, reportFault, reportAnswer}
+use Rattle.run.specs.Told.{Told, instruct, complete, mayReport, instructionAt}
 use Rattle.run.proofs.ReportLaws.{may-is}
 use Rattle.run.proofs.ToldLaws.{done-is-not}
 use Rattle.run.proofs.ReportsLaws.{history-fine, holds-reports, longer-is}
 use Rattle.run.proofs.RunTheorems.{shows-fine}
-use Rattle.following.specs.Calls.{theRun, Call, showing, reporting, Progress, begun, stepsOf, afterCall, afterCalls}
+use Rattle.following.specs.Calls.{Call, showing, reporting, Progress, begun, stepsOf, afterCall, afterCalls}
+use Rattle.following.specs.ThisRun.{theRun}
 
 abbrev pub stepOf : Move → ℕ → Step
 stepOf m o = record { instruction = m; report = o }

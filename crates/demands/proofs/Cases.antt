@@ -14,19 +14,19 @@ use Rattle.plan.specs.declared.Refusal.the-variants as refusal
 use Rattle.plan.specs.declared.Judged.the-variants as judged
 use Rattle.plan.specs.Plan.{networkOf}
 use Rattle.plan.proofs.Cases.{k4}
-use Rattle.tree.specs.Nodes.{firstNodes}
+use Rattle.tree.specs.Nodes.{firstNodes, overwritten}
 use Rattle.checker.proofs.Cases.{k4-tree}
 use Rattle.search.specs.declared.Searched.the-variants as searched
-use Rattle.search.specs.Search.{overwritten}
 use Rattle.search.proofs.Cases.{computing}
 use Rattle.run.specs.declared.Instruction.{Instruction}
 use Rattle.run.specs.declared.Reported.{Reported}
 use Rattle.run.specs.declared.Shown.{Shown}
 use Rattle.run.specs.declared.Shown.the-variants as shown
 use Rattle.run.specs.History.{historyOf}
-use Rattle.run.specs.Run.{instruct, complete}
+use Rattle.run.specs.Told.{instruct, complete}
 use Rattle.run.proofs.Cases.{running, move}
-use Rattle.following.specs.Calls.{theRun, showing, reporting}
+use Rattle.following.specs.Calls.{showing, reporting}
+use Rattle.following.specs.ThisRun.{theRun}
 use Rattle.following.proofs.Cases.{calling, step, k14-calls, k14-steps}
 use Rattle.demands.specs.ThisPlanner.{planner}
 use Rattle.demands.specs.Crews.{Made, showed, reported, Answered, heldAfter, stepsTaken, Crew, historyHeld, stepsFollowed, Done}

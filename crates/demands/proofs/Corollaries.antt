@@ -17,10 +17,11 @@ use Rattle.search.specs.declared.Searched.{Searched}
 use Rattle.search.specs.declared.Searched.the-variants as searched
 use Rattle.run.specs.declared.History.{History}
 use Rattle.run.specs.History.{emptyHistory}
-use Rattle.run.specs.Run.{Told, instruct, complete, refuse, instructed}
+use Rattle.run.specs.Told.{Told, instruct, complete, refuse, instructed}
 use Rattle.following.specs.declared.Step.{Step}
 use Rattle.following.specs.declared.Followed.{Followed}
-use Rattle.following.specs.Calls.{Run, theRun, Call, reporting, Progress, begun, afterCall, afterCalls}
+use Rattle.following.specs.Calls.{Run, Call, reporting, Progress, begun, afterCall, afterCalls}
+use Rattle.following.specs.ThisRun.{theRun}
 use Rattle.following.specs.Following.{zeroStep, stepRecord, followedRecord, callsIn}
 use Rattle.demands.specs.ThisPlanner.{planner}
 use Rattle.demands.specs.Crews.{Made, showed, reported, Answered, heldAfter, Crew, historyHeld, stepsFollowed, Done}

@@ -15,7 +15,7 @@ use Rattle.plan.specs.declared.Plan.{Plan}
 use Rattle.plan.specs.declared.Refusal.{Refusal}
 use Rattle.plan.specs.declared.Refusal.the-variants as refusal
 use Rattle.plan.specs.Refusal.{refusalNumber}
-use Rattle.plan.specs.Answer.{unless, first, answered, filled}
+use Rattle.plan.specs.Faults.{unless, first, answered, filled}
 use Rattle.plan.specs.Plan.{networkOf}
 use Rattle.plan.specs.WellFormed.{WellFormed}
 use Rattle.plan.proofs.AnswerLaws.{unless-is, unless-of, first-none}
@@ -25,9 +25,10 @@ use Rattle.judge.proofs.JudgeTheorems.{fine-exactly}
 use Rattle.judge.proofs.WellFormedLaws.{two-to-four}
 use Rattle.frame.specs.Texts.{roomFault}
 use Rattle.frame.proofs.WritingLaws.{writes}
-use Rattle.tree.specs.Nodes.{nodeAt, fromNode}
-use Rattle.tree.specs.Trees.{moveOf}
-use Rattle.run.specs.Run.{Told, instruct, complete, refuse, mayReport, nodesBefore, toldHere, toldFrom, unlessFault, reportFault}
+use Rattle.tree.specs.Nodes.{nodeAt}
+use Rattle.tree.specs.Parts.{fromNode, moveOf}
+use Rattle.run.specs.Run.{nodesBefore, toldHere, toldFrom, unlessFault, reportFault}
+use Rattle.run.specs.Told.{Told, instruct, complete, refuse, mayReport}
 use Rattle.demands.specs.Demand1.{OneOf, Fills}
 
 -- ---- one of some numbers

@@ -14,7 +14,8 @@ use Rattle.network.specs.Search.{firstTree}
 use Rattle.network.proofs.Booleans.{by-test, leb-is, eqb-is, eqb-no, differs, false-exactly}
 use Rattle.plan.specs.declared.Plan.{Plan}
 use Rattle.plan.specs.declared.Refusal.the-variants as refusal
-use Rattle.plan.specs.Answer.{unless, Answer, fine, answered, filled}
+use Rattle.plan.specs.Answer.{Answer, fine}
+use Rattle.plan.specs.Faults.{unless, answered, filled}
 use Rattle.plan.specs.Plan.{networkOf}
 use Rattle.plan.specs.WellFormed.{WellFormed}
 use Rattle.plan.proofs.AnswerLaws.{unless-is, first-none, answered-zero}
@@ -22,32 +23,37 @@ use Rattle.judge.specs.Judge.{planFault}
 use Rattle.judge.proofs.JudgeTheorems.{fine-exactly, head-refused-exactly, letters-refused-exactly, constraints-refused-exactly}
 use Rattle.frame.specs.Frame.{faultText}
 use Rattle.frame.specs.Texts.{roomFault}
-use Rattle.tree.specs.Nodes.{mostBytes, legalLength, firstNodes}
+use Rattle.tree.specs.Nodes.{mostBytes, legalLength, firstNodes, overwritten}
 use Rattle.tree.specs.Trees.{treeBytes, Describes}
 use Rattle.tree.proofs.NodeLaws.{legal-is}
-use Rattle.plan_text.specs.PlanText.{planText, writePlan}
+use Rattle.plan_text.specs.PlanText.{planText}
+use Rattle.plan_text.specs.WritePlan.{writePlan}
 use Rattle.plan_text.specs.ReadPlan.{readPlan}
 use Rattle.plan_text.proofs.RefusedLaws.{refused}
 use Rattle.plan_text.proofs.PlanTextTheorems.{read-exactly as read-plan-exactly}
-use Rattle.tree_text.specs.TreeText.{treeText, writeTree, readNodes, bytesIn, readTree, readTreeLeaves}
+use Rattle.tree_text.specs.TreeText.{treeText}
+use Rattle.tree_text.specs.WriteTree.{writeTree}
+use Rattle.tree_text.specs.ReadTree.{readNodes, bytesIn, readTree, readTreeLeaves}
 use Rattle.tree_text.proofs.TreeTextTheorems.{read-exactly, whatever-reads, refused-with-five}
 use Rattle.checker.specs.Checker.{treeFault, checkFault}
 use Rattle.checker.proofs.CheckerTheorems.{six-exactly, seven-exactly, yes-six-or-seven, plan-first}
-use Rattle.search.specs.Search.{searchFault, searchAnswer, overwritten, searchLeaves}
+use Rattle.search.specs.Search.{searchFault, searchAnswer, searchLeaves}
 use Rattle.search.proofs.AnswerLaws.{by-fault, answered-so}
 use Rattle.search.proofs.SearchTheorems.{leaves-tree, front-is-tree, checker-yes, hopeless-leaves, refused-stays, past-stays}
 use Rattle.search.proofs.SearchTheorems.{fault-is, ten-exactly, hopeless-exactly}
 use Rattle.search.proofs.SearchTheorems.{plan-first as search-plan-first}
 use Rattle.run.specs.declared.History.{History}
-use Rattle.run.specs.History.{historyFine, reportsIn}
-use Rattle.run.specs.Run.{Told, instruct, mayReport, showAnswer, reportFault, reportAnswer}
+use Rattle.run.specs.Run.{historyFine, reportsIn, showAnswer, reportFault, reportAnswer}
+use Rattle.run.specs.Told.{Told, instruct, mayReport}
 use Rattle.run.proofs.ReportLaws.{may-is}
 use Rattle.run.proofs.ToldLaws.{instructed-so, room-for-one}
 use Rattle.run.proofs.RunTheorems.{check-first, history-next, shows-fine, refusal-handed-on, accepted-longer, refused-same}
-use Rattle.following.specs.Calls.{theRun, Call, showing, reporting, Progress, begun, stepsOf, afterCall, afterCalls}
+use Rattle.following.specs.Calls.{Call, showing, reporting, Progress, begun, stepsOf, afterCall, afterCalls}
+use Rattle.following.specs.ThisRun.{theRun}
 use Rattle.following.specs.Following.{callsIn}
 use Rattle.following.proofs.FollowLaws.{no-step-refused}
-use Rattle.verdict.specs.Verdict.{Fixed, none, verdictFault, verdictOf, leastSchedule, screened}
+use Rattle.verdict.specs.Verdict.{verdictFault, verdictOf, leastSchedule, screened}
+use Rattle.verdict.specs.Answers.{Fixed, none}
 use Rattle.verdict.proofs.AnswerLaws.{eight-answer, screen-plan-fault, fine-answer, mask-fault}
 use Rattle.answer_text.specs.AnswerText.{answerText}
 use Rattle.answer_text.proofs.AnswerTextTheorems.{Says, prints-tree, prints-hopeless, tree-legal, by-input}

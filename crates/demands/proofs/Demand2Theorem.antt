@@ -12,7 +12,8 @@ use Rattle.network.specs.Tree.{strategyOf}
 use Rattle.network.proofs.Booleans.{leb-yes}
 use Rattle.plan.specs.declared.Plan.{Plan}
 use Rattle.plan.specs.declared.Refusal.the-variants as refusal
-use Rattle.plan.specs.Answer.{unless, first, Answer, fine, answered, filled}
+use Rattle.plan.specs.Answer.{Answer, fine}
+use Rattle.plan.specs.Faults.{unless, first, answered, filled}
 use Rattle.plan.specs.Plan.{networkOf}
 use Rattle.plan.specs.WellFormed.{WellFormed}
 use Rattle.plan.proofs.AnswerLaws.{first-none}
@@ -23,7 +24,8 @@ use Rattle.tree.specs.Nodes.{mostBytes, legalLength, nodeCount, firstNodes}
 use Rattle.tree.proofs.NodeLaws.{legal-is}
 use Rattle.plan_text.specs.PlanText.{planText}
 use Rattle.plan_text.proofs.PlanTextTheorems as plan-text
-use Rattle.tree_text.specs.TreeText.{treeText, readNodes, bytesIn, readTree, readTreeLeaves}
+use Rattle.tree_text.specs.TreeText.{treeText}
+use Rattle.tree_text.specs.ReadTree.{readNodes, bytesIn, readTree, readTreeLeaves}
 use Rattle.tree_text.proofs.TreeTextTheorems as tree-text
 use Rattle.checker.specs.Checker.{treeFault, checkFault}
 use Rattle.checker.proofs.CheckerTheorems as checker

@@ -5,10 +5,12 @@ use mathlib.Core.List.{List, [], _∷_}
 use Prim.Native.Nat.{ℕ, _*_, _≤_}
 use native.Mathlib.Omega.{arith}
 use lib.ListN.{length}
-use Rattle.network.specs.Network.{Network, IsNetwork}
+use Rattle.network.specs.Network.{Network}
+use Rattle.network.specs.IsNetwork.{IsNetwork}
 use Rattle.network.specs.Strategy.{DynamicallyConsistent}
 use Rattle.network.specs.Game.{start, Move}
-use Rattle.network.specs.Tree.{Tree, Wins, preorder}
+use Rattle.network.specs.Tree.{Tree, preorder}
+use Rattle.network.specs.Walks.{Wins}
 use Rattle.network.specs.FirstMoves.{FirstMoves}
 use Rattle.network.specs.Search.{firstTree}
 use Rattle.network.proofs.TreeStrategy.{wins→shaped}
@@ -20,15 +22,16 @@ use Rattle.plan.specs.declared.Refusal.the-variants as refusal
 use Rattle.plan.specs.Plan.{networkOf}
 use Rattle.plan.specs.WellFormed.{WellFormed}
 use Rattle.plan.proofs.PlanTheorems.{is-network}
-use Rattle.tree.specs.Nodes.{mostBytes, firstNodes}
+use Rattle.tree.specs.Nodes.{mostBytes, firstNodes, overwritten}
 use Rattle.tree.specs.Trees.{movesBytes, treeBytes, Describes}
 use Rattle.search.specs.declared.Searched.{Searched}
 use Rattle.search.specs.declared.Searched.the-variants as searched
-use Rattle.search.specs.Search.{searchFault, searchAnswer, overwritten, searchLeaves}
+use Rattle.search.specs.Search.{searchFault, searchAnswer, searchLeaves}
 use Rattle.search.proofs.AnswerLaws.{answered-so}
 use Rattle.search.proofs.SearchTheorems.{first-moves, only-bytes, count-nodes, leaves-tree, front-is-tree, checker-yes}
 use Rattle.search.proofs.SearchTheorems.{eleven-exactly, fine-exactly, says-refused-exactly, says-nodes-exactly}
-use Rattle.following.specs.Calls.{theRun, Call}
+use Rattle.following.specs.Calls.{Call}
+use Rattle.following.specs.ThisRun.{theRun}
 use Rattle.demands.specs.ThisPlanner.{planner}
 use Rattle.demands.specs.Demand3.{SearchedBy, Hopeless, Demand3For, Demand3}
 use Rattle.demands.proofs.ListLaws.{EveryList, EveryTwoLists}

@@ -5,15 +5,17 @@ use mathlib.Core.Logic.{⊎-elim}
 use mathlib.Core.List.{List}
 use mathlib.Core.Bool.{true}
 use Prim.Native.Nat.{ℕ, _≤_, _<_}
-use Rattle.network.specs.Network.{Network, IsNetwork, keeps}
+use Rattle.network.specs.Network.{Network, keeps}
+use Rattle.network.specs.IsNetwork.{IsNetwork}
 use Rattle.network.specs.Game.{start}
-use Rattle.network.specs.Tree.{Tree, Wins}
+use Rattle.network.specs.Tree.{Tree}
+use Rattle.network.specs.Walks.{Wins, Follows, AtEnd}
 use Rattle.network.specs.FirstMoves.{FirstMoves}
-use Rattle.network.specs.Crew.{Step, Follows, AtEnd, timesPerformed, slotBySteps, valueBySteps, HeardAlike, ToldAlike}
+use Rattle.network.specs.Crew.{Step, timesPerformed, slotBySteps, valueBySteps, HeardAlike, ToldAlike}
 use Rattle.network.proofs.Theorems.{crew-kept, heard-alike-told-alike}
 use Rattle.plan.specs.declared.Plan.{Plan}
 use Rattle.plan.specs.declared.Refusal.the-variants as refusal
-use Rattle.plan.specs.Answer.{unless}
+use Rattle.plan.specs.Faults.{unless}
 use Rattle.plan.specs.Plan.{networkOf}
 use Rattle.plan.specs.WellFormed.{WellFormed}
 use Rattle.plan.proofs.PlanTheorems.{is-network}
@@ -22,10 +24,12 @@ use Rattle.tree.specs.Trees.{Describes}
 use Rattle.checker.specs.Checker.{checkFault}
 use Rattle.run.specs.declared.History.{History}
 use Rattle.run.specs.History.{historyOf, emptyHistory}
-use Rattle.run.specs.Run.{Told, complete, mayReport, instructionAt, showAnswer, reportFault, reportAnswer}
+use Rattle.run.specs.Run.{showAnswer, reportFault, reportAnswer}
+use Rattle.run.specs.Told.{Told, complete, mayReport, instructionAt}
 use Rattle.run.proofs.ReportLaws.{may-is}
 use Rattle.run.proofs.RunTheorems.{accepted-longer}
-use Rattle.following.specs.Calls.{theRun, Call, Progress, begun, afterCalls}
+use Rattle.following.specs.Calls.{Call, Progress, begun, afterCalls}
+use Rattle.following.specs.ThisRun.{theRun}
 use Rattle.demands.proofs.ListLaws.{stepsAfter, ListDone, Lengthened, EveryList}
 use Rattle.demands.proofs.ListLaws.{EveryTwoLists}
 use Rattle.demands.proofs.CallLaws.{reportsOf, AtNode, PastLast, stands, done-at-end, at-most-8, told-then, from-empty}

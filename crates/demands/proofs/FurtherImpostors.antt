@@ -13,20 +13,22 @@ use Rattle.network.specs.Fixed.{Setting, Schedulable}
 use Rattle.network.proofs.Booleans.{clash}
 use Rattle.network.proofs.MaskLaws.{bit-zero}
 use Rattle.plan.specs.declared.Plan.{Plan}
-use Rattle.plan.specs.Answer.{unless, first, Answer, fine, answered, filled, andThen}
+use Rattle.plan.specs.Answer.{Answer, fine}
+use Rattle.plan.specs.Faults.{unless, first, answered, filled, andThen}
 use Rattle.plan.specs.Plan.{networkOf}
 use Rattle.plan.specs.WellFormed.{WellFormed}
 use Rattle.plan.proofs.Cases.{one-point, k4}
-use Rattle.frame.specs.Hex.{digitOf, pairOf, hexDigit}
-use Rattle.frame.specs.Frame.{byteAt, whole}
+use Rattle.frame.specs.Hex.{hexDigit}
+use Rattle.frame.specs.ReadFrame.{digitOf, pairOf, byteAt, whole}
 use Rattle.frame.specs.Texts.{frameFault, framesFrom, atEnd}
 use Rattle.judge.proofs.JudgeTheorems.{fine-exactly}
 use Rattle.checker.proofs.Cases.{k4-tree, k11-tree, k4-and-k11-to-k13}
-use Rattle.plan_text.specs.PlanText.{planText, writePlan, writePlanLeaves}
+use Rattle.plan_text.specs.PlanText.{planText}
+use Rattle.plan_text.specs.WritePlan.{writePlan, writePlanLeaves}
 use Rattle.plan_text.specs.ReadPlan.{readHead, readPlan}
 use Rattle.search.proofs.Cases.{computing}
 use Rattle.verdict.specs.declared.Found.the-variants as found
-use Rattle.verdict.specs.Verdict.{none}
+use Rattle.verdict.specs.Answers.{none}
 use Rattle.demands.specs.Planner.{Planner}
 use Rattle.demands.specs.Demand1.{Demand1}
 use Rattle.demands.specs.Demand2.{Demand2}

@@ -20,7 +20,8 @@ use Rattle.plan.specs.declared.Plan.{Plan}
 use Rattle.plan.specs.declared.Refusal.the-variants as refusal
 use Rattle.plan.specs.declared.Judged.the-variants as judged
 use Rattle.plan.specs.Refusal.{refusalNumber}
-use Rattle.plan.specs.Answer.{unless, first, Answer, fine}
+use Rattle.plan.specs.Answer.{Answer, fine}
+use Rattle.plan.specs.Faults.{unless, first}
 use Rattle.plan.specs.Plan.{networkOf}
 use Rattle.plan.specs.Letters.{heardBy}
 use Rattle.plan.specs.WellFormed.{WellFormed}
@@ -28,20 +29,22 @@ use Rattle.plan.proofs.Cases.{letter, constraint, plan, one-point}
 use Rattle.masks.specs.Masks.{inside}
 use Rattle.judge.specs.Judge.{planFault}
 use Rattle.judge.proofs.WellFormedLaws as judge
-use Rattle.tree.specs.Nodes.{mostBytes, firstNodes}
+use Rattle.tree.specs.Nodes.{mostBytes, firstNodes, overwritten}
 use Rattle.tree.specs.Trees.{treeBytes}
 use Rattle.checker.proofs.Cases.{never}
 use Rattle.search.specs.declared.Searched.the-variants as searched
-use Rattle.search.specs.Search.{searchFault, searchAnswer, overwritten, searchLeaves}
+use Rattle.search.specs.Search.{searchFault, searchAnswer, searchLeaves}
 use Rattle.search.proofs.SearchTheorems.{first-moves, fine-exactly}
 use Rattle.search.proofs.Cases.{computing}
 use Rattle.run.specs.declared.History.{History}
 use Rattle.run.specs.declared.Shown.the-variants as shown
-use Rattle.run.specs.History.{emptyHistory, reportsIn, longer}
-use Rattle.run.specs.Run.{Told, instruct, complete, refuse, toldFrom, showAnswer, reportFault, reportAnswer}
+use Rattle.run.specs.History.{emptyHistory, longer}
+use Rattle.run.specs.Run.{reportsIn, toldFrom, showAnswer, reportFault, reportAnswer}
+use Rattle.run.specs.Told.{Told, instruct, complete, refuse}
 use Rattle.run.proofs.ToldLaws.{refused-is-not}
 use Rattle.run.proofs.Cases.{move}
-use Rattle.following.specs.Calls.{Run, theRun, Call, reporting}
+use Rattle.following.specs.Calls.{Run, Call, reporting}
+use Rattle.following.specs.ThisRun.{theRun}
 use Rattle.following.proofs.Cases.{calling, step}
 use Rattle.demands.specs.Planner.{Planner}
 use Rattle.demands.specs.Demand1.{OneOf}

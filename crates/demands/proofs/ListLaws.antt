@@ -15,7 +15,7 @@ use Rattle.plan.specs.declared.Plan.{Plan}
 use Rattle.plan.specs.Plan.{networkOf}
 use Rattle.run.specs.declared.History.{History}
 use Rattle.run.specs.History.{historyOf, emptyHistory, longer}
-use Rattle.run.specs.Run.{Told, instruct, complete, instructionAt}
+use Rattle.run.specs.Told.{Told, instruct, complete, instructionAt}
 use Rattle.following.specs.Calls.{Run, Call, begun, afterCalls}
 
 -- one crew's list of calls, the first one given the empty history

@@ -20,7 +20,7 @@ use Rattle.run.specs.declared.Shown.{Shown}
 use Rattle.run.specs.declared.Shown.the-variants as shown
 use Rattle.run.specs.declared.Reported.{Reported}
 use Rattle.run.specs.History.{emptyHistory, longer}
-use Rattle.run.specs.Run.{Told, instruct, complete, instructed, shownTold, reportedAnswer}
+use Rattle.run.specs.Told.{Told, instruct, complete, instructed, shownTold, reportedAnswer}
 use Rattle.run.proofs.ToldLaws.{refused-is-not}
 use Rattle.following.specs.Calls.{Run, Call, showing, reporting, Progress, begun, stepsOf, afterCall, afterCalls}
 use Rattle.demands.specs.Crews.{ShownBy, ReportedBy, Made, showed, reported, Answered, heldAfter, followedBy, stepsTaken, Crew, historyHeld, stepsFollowed, reportsMade, Done}

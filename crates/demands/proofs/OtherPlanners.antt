@@ -3,8 +3,9 @@ use mathlib.Core.List.{List}
 use Prim.Native.Nat.{ℕ}
 use Rattle.plan.specs.declared.Plan.{Plan}
 use Rattle.plan.specs.Answer.{Answer}
-use Rattle.following.specs.Calls.{Run, theRun}
-use Rattle.verdict.specs.Verdict.{Fixed}
+use Rattle.following.specs.Calls.{Run}
+use Rattle.following.specs.ThisRun.{theRun}
+use Rattle.verdict.specs.Answers.{Fixed}
 use Rattle.demands.specs.Planner.{Planner}
 use Rattle.demands.specs.ThisPlanner.{planner}
 

@@ -19,15 +19,18 @@ use Rattle.plan.specs.Plan.{networkOf}
 use Rattle.plan.proofs.RefusalLaws.{fine-is}
 use Rattle.search.specs.declared.Searched.{Searched}
 use Rattle.search.specs.declared.Searched.the-variants as searched
-use Rattle.search.specs.Search.{searchedAnswer, searchAnswer}
+use Rattle.search.specs.Search.{searchAnswer}
+use Rattle.search.specs.Searched.{searchedAnswer}
 use Rattle.search.proofs.SearchTheorems.{fault-is, refused-zero}
 use Rattle.run.specs.declared.History.{History}
 use Rattle.run.specs.declared.Shown.{Shown}
 use Rattle.run.specs.declared.Shown.the-variants as shown
 use Rattle.run.specs.declared.Reported.{Reported}
 use Rattle.run.specs.History.{emptyHistory}
-use Rattle.run.specs.Run.{Told, instruct, complete, refuse, instructed, shownTold, reportedAnswer, showAnswer, reportAnswer}
-use Rattle.following.specs.Calls.{Run, theRun, Call, showing, reporting}
+use Rattle.run.specs.Run.{showAnswer, reportAnswer}
+use Rattle.run.specs.Told.{Told, instruct, complete, refuse, instructed, shownTold, reportedAnswer}
+use Rattle.following.specs.Calls.{Run, Call, showing, reporting}
+use Rattle.following.specs.ThisRun.{theRun}
 use Rattle.demands.specs.Demand1.{OneOf}
 use Rattle.demands.specs.Crews.{ShownBy, ReportedBy, Made, showed, reported, Answered, heldAfter, Crew, historyHeld, stepsFollowed, Done}
 use Rattle.demands.specs.Demand3.{CanBeLengthened, EveryCrew, EveryTwoCrews}

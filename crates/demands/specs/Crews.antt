@@ -12,7 +12,7 @@ use Rattle.run.specs.declared.Shown.{Shown}
 use Rattle.run.specs.declared.Shown.the-variants as shown
 use Rattle.run.specs.declared.Reported.{Reported}
 use Rattle.run.specs.History.{emptyHistory}
-use Rattle.run.specs.Run.{instructed, shownTold, reportedAnswer}
+use Rattle.run.specs.Told.{instructed, shownTold, reportedAnswer}
 use Rattle.following.specs.Calls.{Run}
 
 -- what showing and reporting hand back at a history, as a contract says that cites R's definitions

@@ -19,17 +19,17 @@ use Rattle.plan.specs.Answer.{fine}
 use Rattle.plan.specs.Plan.{zeroPlan, networkOf}
 use Rattle.plan.specs.WellFormed.{FineHead, FineLetters, FineConstraints, WellFormed}
 use Rattle.frame.specs.Frame.{Bytes, faultText}
-use Rattle.tree.specs.Nodes.{mostBytes, legalLength, firstNodes}
+use Rattle.tree.specs.Nodes.{mostBytes, legalLength, firstNodes, overwritten}
 use Rattle.tree.specs.Trees.{Describes}
 use Rattle.plan_text.specs.PlanText.{planText}
 use Rattle.tree_text.specs.TreeText.{treeText}
-use Rattle.search.specs.Search.{overwritten}
 use Rattle.run.specs.declared.History.{History}
-use Rattle.run.specs.History.{historyFine, reportsIn, longer}
-use Rattle.run.specs.Run.{instruct, complete, refuse, instructionAt}
+use Rattle.run.specs.History.{longer}
+use Rattle.run.specs.Run.{historyFine, reportsIn}
+use Rattle.run.specs.Told.{instruct, complete, refuse, instructionAt}
 use Rattle.following.specs.Calls.{begun, afterCalls}
 use Rattle.following.specs.Following.{callsIn}
-use Rattle.verdict.specs.Verdict.{none}
+use Rattle.verdict.specs.Answers.{none}
 use Rattle.demands.specs.Planner.{Planner}
 
 -- one of these numbers

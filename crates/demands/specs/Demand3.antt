@@ -20,18 +20,18 @@ use Rattle.plan.specs.declared.Refusal.the-variants as refusal
 use Rattle.plan.specs.declared.Judged.the-variants as judged
 use Rattle.plan.specs.Plan.{networkOf}
 use Rattle.plan.specs.WellFormed.{WellFormed}
-use Rattle.tree.specs.Nodes.{mostBytes, firstNodes}
+use Rattle.tree.specs.Nodes.{mostBytes, firstNodes, overwritten}
 use Rattle.tree.specs.Trees.{treeBytes}
 use Rattle.search.specs.declared.Searched.{Searched}
 use Rattle.search.specs.declared.Searched.the-variants as searched
-use Rattle.search.specs.Search.{searchedAnswer, overwritten}
+use Rattle.search.specs.Searched.{searchedAnswer}
 use Rattle.run.specs.declared.History.{History}
 use Rattle.run.specs.declared.Instruction.{Instruction}
 use Rattle.run.specs.declared.Shown.{Shown}
 use Rattle.run.specs.declared.Shown.the-variants as shown
 use Rattle.run.specs.declared.Reported.{Reported}
 use Rattle.run.specs.History.{historyOf, longer}
-use Rattle.run.specs.Run.{instructed, shownTold, instructionAt}
+use Rattle.run.specs.Told.{instructed, shownTold, instructionAt}
 use Rattle.following.specs.Calls.{Run}
 use Rattle.demands.specs.Planner.{Planner}
 use Rattle.demands.specs.Crews.{ReportedBy, Crew, historyHeld, stepsFollowed, reportsMade, Done}

@@ -12,7 +12,7 @@ use Rattle.verdict.specs.declared.Verdict.{Verdict}
 use Rattle.verdict.specs.declared.screen.Screened.{Screened}
 use Rattle.verdict.specs.declared.screen.Screened.the-variants as screened
 use Rattle.verdict.specs.Says.{Says}
-use Rattle.verdict.specs.Verdict.{verdictAnswer, screenAnswer}
+use Rattle.verdict.specs.Answers.{verdictAnswer, screenAnswer}
 use Rattle.demands.specs.Planner.{Planner}
 
 pub record FixedOutcomes (P : Planner) : Type 0 where

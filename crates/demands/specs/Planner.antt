@@ -7,7 +7,7 @@ use Rattle.plan.specs.declared.Refusal.{Refusal}
 use Rattle.plan.specs.Answer.{Answer}
 use Rattle.run.specs.declared.History.{History}
 use Rattle.following.specs.Calls.{Run, Progress}
-use Rattle.verdict.specs.Verdict.{Fixed}
+use Rattle.verdict.specs.Answers.{Fixed}
 
 -- What each call answers, and what it leaves in a buffer that is lent to it. A fault is document 01's number, 0 for none.
 pub record Planner : Type 0 where

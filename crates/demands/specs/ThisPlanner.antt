@@ -1,13 +1,15 @@
 -- Definitions: this planner: for each call the definitions that its contract cites. A reader holds it beside the contracts; what the
 -- definitions say is pinned by `demand1`, `demand2`, `fixed-outcomes` and `demand3`.
-use Rattle.frame.specs.Frame.{refusalText}
+use Rattle.frame.specs.Texts.{refusalText}
 use Rattle.judge.specs.Judge.{planFault}
-use Rattle.plan_text.specs.PlanText.{writePlan, writePlanLeaves}
+use Rattle.plan_text.specs.WritePlan.{writePlan, writePlanLeaves}
 use Rattle.plan_text.specs.ReadPlan.{readPlan}
-use Rattle.tree_text.specs.TreeText.{writeTree, writeTreeLeaves, readTree, readTreeLeaves}
+use Rattle.tree_text.specs.WriteTree.{writeTree, writeTreeLeaves}
+use Rattle.tree_text.specs.ReadTree.{readTree, readTreeLeaves}
 use Rattle.checker.specs.Checker.{checkFault}
 use Rattle.search.specs.Search.{searchAnswer, searchLeaves}
-use Rattle.following.specs.Calls.{theRun, begun, afterCalls}
+use Rattle.following.specs.Calls.{begun, afterCalls}
+use Rattle.following.specs.ThisRun.{theRun}
 use Rattle.following.specs.Following.{callsIn}
 use Rattle.verdict.specs.Verdict.{leastSchedule, screened}
 use Rattle.answer_text.specs.AnswerText.{answerText}

@@ -9,9 +9,10 @@ use Rattle.network.specs.Crew.{Step}
 use Rattle.plan.proofs.Cases.{k4}
 use Rattle.checker.proofs.Cases.{k4-tree}
 use Rattle.run.specs.History.{historyOf, emptyHistory}
-use Rattle.run.specs.Run.{instruct, complete, refuse}
+use Rattle.run.specs.Told.{instruct, complete, refuse}
 use Rattle.run.proofs.Cases.{running, move}
-use Rattle.following.specs.Calls.{theRun, Call, showing, reporting, Progress, begun, stepsOf, afterCall, afterCalls}
+use Rattle.following.specs.Calls.{Call, showing, reporting, Progress, begun, stepsOf, afterCall, afterCalls}
+use Rattle.following.specs.ThisRun.{theRun}
 use Rattle.following.specs.Following.{callsIn, followedRecord}
 
 -- To unfold this is to unfold all that a list of calls over a tree computes.

@@ -12,11 +12,14 @@ use Rattle.plan.specs.Answer.{Answer}
 use Rattle.plan.proofs.SliceLaws.{rest as part, rest-is, padded, put-next}
 use Rattle.run.specs.declared.Instruction.{Instruction}
 use Rattle.run.specs.declared.History.{History}
-use Rattle.run.specs.Run.{Told, instruct, complete, refuse, instructed, showAnswer, reportAnswer}
+use Rattle.run.specs.Run.{showAnswer, reportAnswer}
+use Rattle.run.specs.Told.{Told, instruct, complete, refuse, instructed}
 use Rattle.run.proofs.RunTheorems.{accepted-longer, refused-same}
 use Rattle.following.specs.declared.Followed.{Followed}
-use Rattle.following.specs.Calls.{theRun, Call, showing, reporting, Progress, begun, stepsOf, afterCall, afterCalls}
-use Rattle.following.specs.Following.{callOf, callsIn, zeroStep, stepRecord, followedRecord, oneStepMore, AfterCall}
+use Rattle.following.specs.Calls.{Call, showing, reporting, Progress, begun, stepsOf, afterCall, afterCalls}
+use Rattle.following.specs.ThisRun.{theRun}
+use Rattle.following.specs.Following.{callOf, callsIn, zeroStep, stepRecord, followedRecord}
+use Rattle.following.specs.OneCall.{oneStepMore, AfterCall}
 
 -- ---- calls as bytes
 

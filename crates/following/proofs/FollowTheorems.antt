@@ -7,7 +7,8 @@ use lib.ListN.{length}
 use Rattle.plan.specs.declared.Plan.{Plan}
 use Rattle.run.specs.declared.History.{History}
 use Rattle.following.specs.declared.Followed.{Followed}
-use Rattle.following.specs.Calls.{theRun, Call, showing, reporting, begun, afterCalls}
+use Rattle.following.specs.Calls.{Call, showing, reporting, begun, afterCalls}
+use Rattle.following.specs.ThisRun.{theRun}
 use Rattle.following.specs.Following.{callsIn, followedRecord}
 
 -- the bytes of a list of calls

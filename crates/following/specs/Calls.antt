@@ -5,16 +5,12 @@ use Rattle.network.specs.Crew.{Step}
 use Rattle.plan.specs.declared.Plan.{Plan}
 use Rattle.plan.specs.Answer.{Answer}
 use Rattle.run.specs.declared.History.{History}
-use Rattle.run.specs.Run.{Told, instruct, complete, refuse, showAnswer, reportAnswer}
+use Rattle.run.specs.Told.{Told, instruct, complete, refuse}
 
 -- What answers a crew's calls: this planner's run, or any other.
 pub record Run : Type 0 where
   pub shows : Plan → List ℕ → History → Told
   pub reports : Plan → List ℕ → History → ℕ → Answer History
-
--- this planner's: the definitions that the contracts of `show` and `report` cite
-abbrev pub theRun : Run
-theRun = record { shows = showAnswer; reports = reportAnswer }
 
 -- a call: showing, or reporting a mask
 pub data Call : Type 0 where

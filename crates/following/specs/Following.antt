@@ -1,16 +1,11 @@
--- Definitions: a list of calls as bytes, and what following it hands back. A reader must believe this file, but for the last two definitions,
--- which inner functions promise.
-use mathlib.Core.Path.{_≡_}
+-- Definitions: a list of calls as bytes, and the record of what following it leaves. A reader must believe this file.
 use mathlib.Core.List.{List, [], _∷_, _++_, map}
-use Prim.Native.Nat.{ℕ, zero, suc, _+_, _-_}
-use lib.ListN.{length, set, replicate}
+use Prim.Native.Nat.{ℕ, zero, suc, _-_}
+use lib.ListN.{length, replicate}
 use Rattle.network.specs.Crew as crew
-use Rattle.plan.specs.declared.Plan.{Plan}
-use Rattle.run.specs.declared.Instruction.{Instruction}
-use Rattle.run.specs.declared.History.{History}
 use Rattle.following.specs.declared.Step.{Step}
 use Rattle.following.specs.declared.Followed.{Followed}
-use Rattle.following.specs.Calls.{theRun, Call, showing, reporting, Progress, afterCall}
+use Rattle.following.specs.Calls.{Call, showing, reporting, Progress}
 
 -- Two bytes are a call: 0 and any byte is a showing; another byte and a mask is the reporting of that mask. A last byte by itself is none.
 abbrev pub callOf : ℕ → ℕ → Call
@@ -40,13 +35,3 @@ followedRecord r =
       count = length (r .steps);
       steps = map stepRecord (r .steps) ++ replicate (8 - length (r .steps)) zeroStep;
     }
-
--- the record with one step more, and the history then
-abbrev pub oneStepMore : Followed → History → Instruction → ℕ → Followed
-oneStepMore f h v o =
-    record { history = h; count = f .count + 1; steps = set (f .steps) (f .count) (record { instruction = v; report = o }) }
-
--- r records what a call leaves, wherever f records how far the crew had come
-abbrev pub AfterCall : Plan → List ℕ → Followed → ℕ → ℕ → Followed → Type 0
-AfterCall p tree f kind o r =
-    (progress : Progress) → f ≡ followedRecord progress → r ≡ followedRecord (afterCall theRun p tree progress (callOf kind o))

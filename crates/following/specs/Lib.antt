@@ -1,3 +1,5 @@
 -- Definitions: the modules of this folder, in the order in which they are read. A reader must believe them.
 pub mod Calls
+pub mod ThisRun
 pub mod Following
+pub mod OneCall

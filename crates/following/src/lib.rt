@@ -6,8 +6,10 @@ use run::Instruction;
 use run::Shown;
 ghost use mathlib.Core.Path.{_≡_};
 ghost use Prim.Native.Nat.{_≤_, _<_};
-ghost use Rattle.following.specs.Calls.{theRun, begun, afterCalls};
-ghost use Rattle.following.specs.Following.{callsIn, followedRecord, oneStepMore, AfterCall};
+ghost use Rattle.following.specs.Calls.{begun, afterCalls};
+ghost use Rattle.following.specs.ThisRun.{theRun};
+ghost use Rattle.following.specs.Following.{callsIn, followedRecord};
+ghost use Rattle.following.specs.OneCall.{oneStepMore, AfterCall};
 
 // An instruction that was followed, and the report that was accepted there.
 pub struct Step {

@@ -4,10 +4,11 @@ use mathlib.Core.List.{[], _∷_}
 use mathlib.Core.Bool.{true, false}
 use Rattle.network.specs.Mask.{allBelow}
 use Rattle.plan.specs.declared.Refusal.the-variants as refusal
-use Rattle.plan.specs.Answer.{first, unless}
-use Rattle.frame.specs.Hex.{digitOf, pairOf, hexDigit}
-use Rattle.frame.specs.Frame.{frameText, refusalText, byteAt, valueAt, whole}
-use Rattle.frame.specs.Texts.{frameFault}
+use Rattle.plan.specs.Faults.{first, unless}
+use Rattle.frame.specs.Hex.{hexDigit}
+use Rattle.frame.specs.ReadFrame.{digitOf, pairOf, byteAt, valueAt, whole}
+use Rattle.frame.specs.Frame.{frameText}
+use Rattle.frame.specs.Texts.{frameFault, refusalText}
 use Rattle.frame.specs.Characters.{characters}
 
 pub written : (frameText (1 ∷ 35 ∷ 175 ∷ []) ≡ characters "0123AF\n") × (frameText (254 ∷ []) ≡ characters "FE\n")

@@ -13,10 +13,11 @@ use Rattle.network.specs.Mask.{allBelow}
 use Rattle.network.proofs.BelowLaws.{all-fails}
 use Rattle.plan.specs.declared.Refusal.{Refusal}
 use Rattle.plan.specs.Refusal.{refusalNumber}
-use Rattle.plan.specs.Answer.{unless, first}
+use Rattle.plan.specs.Faults.{unless, first}
 use Rattle.plan.proofs.RefusalLaws.{some-number}
 use Rattle.frame.specs.Hex.{hexDigit}
-use Rattle.frame.specs.Frame.{frameText, byteAt, whole}
+use Rattle.frame.specs.Frame.{frameText}
+use Rattle.frame.specs.ReadFrame.{byteAt, whole}
 use Rattle.frame.specs.Texts.{frameFault}
 
 -- ---- a frame judged

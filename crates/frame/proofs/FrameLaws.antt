@@ -13,8 +13,9 @@ use Rattle.network.proofs.Booleans.{and-left, and-right, and-make, ltb-yes, ltb
 use Rattle.network.proofs.BelowLaws.{all-at, all-make}
 use Rattle.plan.specs.Plan.{listed}
 use Rattle.plan.proofs.PlanLaws.{listed-same}
-use Rattle.frame.specs.Hex.{digitOf, pairOf, hexDigit}
-use Rattle.frame.specs.Frame.{Bytes, frameLength, frameText, byteAt, valueAt, whole}
+use Rattle.frame.specs.Hex.{hexDigit}
+use Rattle.frame.specs.ReadFrame.{digitOf, pairOf, frameLength, byteAt, valueAt, whole}
+use Rattle.frame.specs.Frame.{Bytes, frameText}
 use Rattle.frame.proofs.HexLaws.{byte-back, byte-digits}
 
 -- the same as `Bytes`, one by one

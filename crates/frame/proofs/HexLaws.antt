@@ -8,7 +8,8 @@ use native.Mathlib.Decide.{decLt}
 use borrow.Author.Tests.{lt-leb}
 use lib.Dec.{leb, ltb}
 use Rattle.network.proofs.Booleans.{by-test, and-left, and-right, leb-yes, leb-is, ltb-yes, ltb-is, ltb-no}
-use Rattle.frame.specs.Hex.{digitOf, pairOf, hexDigit}
+use Rattle.frame.specs.Hex.{hexDigit}
+use Rattle.frame.specs.ReadFrame.{digitOf, pairOf}
 
 -- ---- digits
 

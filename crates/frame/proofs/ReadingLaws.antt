@@ -7,10 +7,11 @@ use Prim.Native.Nat.{ℕ, _+_, _-_, _≤_, _<_}
 use lib.ListN.{length}
 use Rattle.plan.specs.declared.Refusal.{Refusal}
 use Rattle.plan.specs.Refusal.{refusalNumber}
-use Rattle.plan.specs.Answer.{Answer, answered, andThen}
+use Rattle.plan.specs.Answer.{Answer}
+use Rattle.plan.specs.Faults.{answered, andThen}
 use Rattle.plan.proofs.RefusalLaws.{no-refusal}
 use Rattle.plan.proofs.SliceLaws.{rest, rest-is}
-use Rattle.frame.specs.Frame.{frameLength, whole}
+use Rattle.frame.specs.ReadFrame.{frameLength, whole}
 use Rattle.frame.specs.Texts.{frameFault, framesFrom}
 use Rattle.frame.proofs.FrameLaws.{whole-long}
 use Rattle.frame.proofs.RunLaws.{then-goes, then-stops, frame-read-is, frames-step}

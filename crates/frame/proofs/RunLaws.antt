@@ -12,10 +12,11 @@ use Rattle.network.proofs.Booleans.{by-test, eqb-no, eqb-is, differs}
 use Rattle.network.proofs.JoinLaws.{join-first}
 use Rattle.plan.specs.declared.Refusal.{Refusal}
 use Rattle.plan.specs.Refusal.{refusalNumber}
-use Rattle.plan.specs.Answer.{unless, first, Answer, fine, answered, andThen, filled}
+use Rattle.plan.specs.Answer.{Answer, fine}
+use Rattle.plan.specs.Faults.{unless, first, answered, andThen, filled}
 use Rattle.plan.proofs.RefusalLaws.{no-refusal, some-number}
 use Rattle.plan.proofs.AnswerLaws.{unless-is, unless-of, answered-fault, answered-fine}
-use Rattle.frame.specs.Frame.{frameLength}
+use Rattle.frame.specs.ReadFrame.{frameLength}
 use Rattle.frame.specs.Texts.{frameFault, framesFrom, atEnd}
 
 -- ---- faults

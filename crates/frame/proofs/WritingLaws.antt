@@ -14,11 +14,13 @@ use Rattle.network.proofs.JoinLaws.{join-length}
 use Rattle.plan.specs.declared.Refusal.{Refusal}
 use Rattle.plan.specs.declared.Refusal.the-variants as refusal
 use Rattle.plan.specs.Refusal.{refusalNumber}
-use Rattle.plan.specs.Answer.{unless, first, Answer, answered, filled}
+use Rattle.plan.specs.Answer.{Answer}
+use Rattle.plan.specs.Faults.{unless, first, answered, filled}
 use Rattle.plan.proofs.RefusalLaws.{some-number}
 use Rattle.frame.specs.declared.Written.{Written}
 use Rattle.frame.specs.declared.Written.the-variants as written
-use Rattle.frame.specs.Texts.{roomFault, writtenAnswer}
+use Rattle.frame.specs.Texts.{roomFault}
+use Rattle.frame.specs.Written.{writtenAnswer}
 
 -- ---- stores, one run after another
 

@@ -2,4 +2,6 @@
 pub mod Characters
 pub mod Hex
 pub mod Frame
+pub mod Written
+pub mod ReadFrame
 pub mod Texts

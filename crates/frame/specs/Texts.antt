@@ -1,4 +1,5 @@
--- Definitions: how a text is judged, frame by frame from the top, and what a writing answers. A reader must believe this file.
+-- Definitions: how a text is judged, frame by frame from the top, and the fault of a writing. Computed: pinned by `demand2` of
+-- demands/proofs/Demand2Theorem.antt.
 use mathlib.Core.Bool.{Bool}
 use mathlib.Core.List.{List}
 use Prim.Native.Nat.{ℕ, zero, suc, _+_}
@@ -6,10 +7,11 @@ use lib.Dec.{leb, eqb}
 use lib.ListN.{length, drop}
 use Rattle.plan.specs.declared.Refusal.{Refusal}
 use Rattle.plan.specs.declared.Refusal.the-variants as refusal
-use Rattle.plan.specs.Answer.{unless, first, Answer, fine, refused, answered, andThen}
-use Rattle.frame.specs.Frame.{frameLength}
-use Rattle.frame.specs.declared.Written.{Written}
-use Rattle.frame.specs.declared.Written.the-variants as written
+use Rattle.plan.specs.Answer.{Answer}
+use Rattle.plan.specs.Faults.{unless, first, answered, andThen}
+use Rattle.plan.specs.Refusal.{refusalNumber}
+use Rattle.frame.specs.Frame.{faultText}
+use Rattle.frame.specs.ReadFrame.{frameLength}
 
 -- the fault of one frame: that of the text where the frame is not whole, before that of its values
 unfoldable pub frameFault : Refusal → Bool → Refusal → Bool → ℕ
@@ -32,7 +34,6 @@ atEnd zeros text a s = answered zeros (unless (eqb (length s) 0) text) a
 abbrev pub roomFault : List ℕ → List ℕ → ℕ
 roomFault text xs = unless (leb (length text) (length xs)) refusal.Buffer
 
--- fault and value of an answer: the text's length
-abbrev pub writtenAnswer : Written → Answer ℕ
-writtenAnswer (written.Length n) = fine n
-writtenAnswer (written.Refused r) = refused 0 r
+-- the frame of a refusal
+abbrev pub refusalText : Refusal → List ℕ
+refusalText r = faultText (refusalNumber r)

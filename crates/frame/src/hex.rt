@@ -1,7 +1,8 @@
 // Hexadecimal digits, 0-9 and A-F in upper case.
 ghost use mathlib.Core.Path.{_≡_};
 ghost use Prim.Native.Nat.{_%_};
-ghost use Rattle.frame.specs.Hex.{digitOf, pairOf, hexDigit};
+ghost use Rattle.frame.specs.Hex.{hexDigit};
+ghost use Rattle.frame.specs.ReadFrame.{digitOf, pairOf};
 
 // The value of the digit c, and 16 where c is none.
 pub fn digit(c: u8) -> u8

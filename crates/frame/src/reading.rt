@@ -5,7 +5,7 @@ use plan::Refusal;
 use plan::bytes;
 ghost use mathlib.Core.Path.{_≡_};
 ghost use Rattle.plan.specs.Refusal.{judgedNumber};
-ghost use Rattle.frame.specs.Frame.{byteAt, valueAt, whole};
+ghost use Rattle.frame.specs.ReadFrame.{byteAt, valueAt, whole};
 ghost use Rattle.frame.specs.Texts.{frameFault};
 
 // Byte k of the frame, and 256 where two digits do not stand there.

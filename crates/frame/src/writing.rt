@@ -6,9 +6,11 @@ ghost use mathlib.Core.List.{[], _∷_};
 ghost use Prim.Native.Nat.{_+_, _/_, _%_, _≤_};
 ghost use lib.ListN.{length};
 ghost use lib.Seq.{sets};
-ghost use Rattle.plan.specs.Answer.{putAt};
+ghost use Rattle.plan.specs.Faults.{putAt};
 ghost use Rattle.frame.specs.Hex.{hexDigit};
-ghost use Rattle.frame.specs.Frame.{frameLength, frameText, refusalText};
+ghost use Rattle.frame.specs.Frame.{frameText};
+ghost use Rattle.frame.specs.ReadFrame.{frameLength};
+ghost use Rattle.frame.specs.Texts.{refusalText};
 
 // The two digits of a byte.
 fn put_byte(out: &mut [u8], at: usize, b: u8)

@@ -9,7 +9,7 @@ use Rattle.plan.specs.declared.Plan.{Plan}
 use Rattle.plan.specs.Plan.{listed}
 use Rattle.plan.proofs.Cases.{letter, plan}
 use Rattle.tree.specs.declared.Node.{Node}
-use Rattle.tree.specs.Trees.{moveOf}
+use Rattle.tree.specs.Parts.{moveOf}
 use Rattle.game.specs.declared.Position.{Position}
 use Rattle.game.specs.Position.{stateOf, startPosition, isLegal, positionAfter}
 

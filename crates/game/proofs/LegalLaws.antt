@@ -15,7 +15,7 @@ use Rattle.network.proofs.GameLaws.{Inside, settled-decision, some-points}
 use Rattle.network.proofs.SearchLaws.{some-bit}
 use Rattle.plan.specs.declared.Plan.{Plan}
 use Rattle.plan.specs.Plan.{networkOf}
-use Rattle.plan.specs.Letters.{settledBy}
+use Rattle.plan.specs.Settled.{settledBy}
 use Rattle.plan.specs.WellFormed.{WellFormed}
 use Rattle.game.specs.Position.{isLegal}
 

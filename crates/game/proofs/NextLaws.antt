@@ -12,7 +12,7 @@ use Rattle.plan.specs.Letters.{heardBy}
 use Rattle.plan.specs.WellFormed.{WellFormed}
 use Rattle.plan.proofs.OutcomeLaws.{numbered-is-outcome}
 use Rattle.tree.specs.declared.Node.{Node}
-use Rattle.tree.specs.Trees.{moveOf}
+use Rattle.tree.specs.Parts.{moveOf}
 use Rattle.game.specs.declared.Position.{Position}
 use Rattle.game.specs.Position.{stateOf, Proper, positionAfter}
 use Rattle.game.proofs.PositionLaws.{after-is, after-proper, fewer}

@@ -23,7 +23,7 @@ use Rattle.plan.specs.WellFormed.{WellFormed}
 use Rattle.plan.proofs.SliceLaws.{all-same}
 use Rattle.plan.proofs.PlanLaws.{network-of-well-formed}
 use Rattle.tree.specs.declared.Node.{Node}
-use Rattle.tree.specs.Trees.{moveOf}
+use Rattle.tree.specs.Parts.{moveOf}
 use Rattle.game.specs.declared.Position.{Position}
 use Rattle.game.specs.Position.{stateOf, Proper, startPosition, positionAfter}
 use Rattle.game.proofs.CodeLaws.{length-listed, get-listed}

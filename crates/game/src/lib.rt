@@ -5,7 +5,7 @@ use tree::Node;
 ghost use mathlib.Core.Path.{_≡_};
 ghost use Rattle.network.specs.Mask.{mask};
 ghost use lib.Dec.{ltb};
-ghost use Rattle.tree.specs.Trees.{moveOf};
+ghost use Rattle.tree.specs.Parts.{moveOf};
 ghost use Rattle.game.specs.Position.{stateOf, slotsAfter, isLegal, startPosition, positionAfter};
 
 // Where the game stands on a path: the first slot still open, the points not yet performed, the letters set true, and the slot of each

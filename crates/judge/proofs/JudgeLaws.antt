@@ -4,7 +4,7 @@ use mathlib.Core.Bool.{Bool, true, false}
 use Rattle.plan.specs.declared.Plan.{Plan}
 use Rattle.plan.specs.declared.Refusal.the-variants as refusal
 use Rattle.plan.specs.Refusal.{refusalNumber}
-use Rattle.plan.specs.Answer.{unless, first}
+use Rattle.plan.specs.Faults.{unless, first}
 use Rattle.judge.specs.Judge.{headFine, lettersFine, constraintsFine, planFault}
 
 -- the head's part of the judgement

@@ -3,13 +3,14 @@
 use mathlib.Core.Bool.{Bool, not, cond, _&&_, _||_}
 use Prim.Native.Nat.{ℕ, _^_}
 use lib.Dec.{leb, ltb, eqb}
-use Rattle.network.specs.Mask.{allBelow, anyBelow}
+use Rattle.network.specs.Mask.{allBelow}
+use Rattle.network.specs.Below.{anyBelow}
 use Rattle.masks.specs.Masks.{inside}
 use Rattle.plan.specs.declared.Letter.{Letter}
 use Rattle.plan.specs.declared.Constraint.{Constraint}
 use Rattle.plan.specs.declared.Plan.{Plan}
 use Rattle.plan.specs.declared.Refusal.the-variants as refusal
-use Rattle.plan.specs.Answer.{unless, first}
+use Rattle.plan.specs.Faults.{unless, first}
 use Rattle.plan.specs.Plan.{letterAt, constraintAt}
 
 -- 2: a head value outside its range

@@ -8,10 +8,11 @@ use native.Mathlib.Decide.{decLt}
 use native.Mathlib.Nat.{pow-suc}
 use lib.Dec.{eqb}
 use lib.Bits.{bitAnd, bitOr, and-zero-r, and-shifted, and-step, or-step}
-use Rattle.network.specs.Mask.{bit, count, submask, rank}
+use Rattle.network.specs.Mask.{bit, count, submask}
+use Rattle.network.specs.Below.{rank}
 use Rattle.network.proofs.Booleans.{by-test, eqb-is, differs}
 use Rattle.network.proofs.SubmaskLaws.{rank-lt, submask-rank, in-submask, submask-rises, submask-order, submask-end}
-use Rattle.masks.specs.Masks.{nextInside}
+use Rattle.masks.specs.Next.{nextInside}
 
 -- a mask with every place outside the set filled, by its lowest digit and the rest
 abbrev filled : ℕ → ℕ → ℕ → ℕ

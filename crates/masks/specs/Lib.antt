@@ -1,2 +1,3 @@
 -- Definitions: the modules of this folder. A reader must believe them.
 pub mod Masks
+pub mod Next

@@ -3,7 +3,8 @@ ghost use mathlib.Core.Path.{_≡_};
 ghost use Prim.Native.Nat.{_^_};
 ghost use lib.Dec.{ltb};
 ghost use Rattle.network.specs.Mask.{bit, count, firstBelow, submask};
-ghost use Rattle.masks.specs.Masks.{inside, nextInside};
+ghost use Rattle.masks.specs.Masks.{inside};
+ghost use Rattle.masks.specs.Next.{nextInside};
 
 // Whether i is a member.
 pub fn has(mask: u8, i: u8) -> bool

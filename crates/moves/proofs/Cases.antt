@@ -3,7 +3,8 @@ use mathlib.Core.Path.{_≡_, refl}
 use mathlib.Core.List.{List, [], _∷_}
 use Prim.Native.Nat.{ℕ, zero, suc}
 use lib.ListN.{replicate}
-use Rattle.network.specs.Mask.{bit, mask, firstBelow, submask, rank}
+use Rattle.network.specs.Mask.{bit, mask, firstBelow, submask}
+use Rattle.network.specs.Below.{rank}
 use Rattle.plan.specs.declared.Plan.{Plan}
 use Rattle.plan.proofs.Cases.{letter, plan}
 use Rattle.tree.specs.declared.Node.{Node}

@@ -16,14 +16,14 @@ use Rattle.network.proofs.Booleans.{clash, and-left, and-right, and-make, leb-y
 use Rattle.network.proofs.MaskLaws.{bit-zero, bit-mask, in-mask, bits-lt}
 use Rattle.network.proofs.GameLaws.{some-points}
 use Rattle.network.proofs.SearchLaws.{some-bit}
-use Rattle.masks.specs.Masks.{nextInside}
+use Rattle.masks.specs.Next.{nextInside}
 use Rattle.masks.proofs.NextLaws.{Within, Last, Next, next-inside-cases}
 use Rattle.plan.specs.declared.Plan.{Plan}
 use Rattle.plan.specs.Plan.{networkOf}
-use Rattle.plan.specs.Letters.{settledBy}
+use Rattle.plan.specs.Settled.{settledBy}
 use Rattle.plan.specs.WellFormed.{WellFormed}
 use Rattle.tree.specs.declared.Node.{Node}
-use Rattle.tree.specs.Trees.{moveOf}
+use Rattle.tree.specs.Parts.{moveOf}
 use Rattle.game.specs.declared.Position.{Position}
 use Rattle.game.specs.Position.{stateOf, Proper}
 use Rattle.game.proofs.LegalLaws.{choices-settled}

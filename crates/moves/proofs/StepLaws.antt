@@ -10,9 +10,9 @@ use native.Mathlib.Nat.{not-suc-le-zero}
 use Rattle.network.specs.Mask.{firstBelow}
 use Rattle.network.proofs.Booleans.{by-test, clash, not-true, not-false, leb-yes, leb-no, eqb-is, eqb-yes, eqb-no, differs}
 use Rattle.network.proofs.BelowLaws.{before-first, first-le}
-use Rattle.masks.specs.Masks.{nextInside}
+use Rattle.masks.specs.Next.{nextInside}
 use Rattle.plan.specs.declared.Plan.{Plan}
-use Rattle.plan.specs.Letters.{settledBy}
+use Rattle.plan.specs.Settled.{settledBy}
 use Rattle.tree.specs.declared.Node.{Node}
 use Rattle.game.specs.declared.Position.{Position}
 use Rattle.moves.specs.declared.Step.the-variants as step

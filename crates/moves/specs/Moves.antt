@@ -9,11 +9,11 @@ use Rattle.network.specs.Mask.{bit, mask, firstBelow}
 use Rattle.network.specs.Network.{Network, slotsIn}
 use Rattle.network.specs.Game.{State, Move, Legal}
 use Rattle.network.specs.FirstMoves.{Before}
-use Rattle.masks.specs.Masks.{nextInside}
+use Rattle.masks.specs.Next.{nextInside}
 use Rattle.plan.specs.declared.Plan.{Plan}
-use Rattle.plan.specs.Letters.{settledBy}
+use Rattle.plan.specs.Settled.{settledBy}
 use Rattle.tree.specs.declared.Node.{Node}
-use Rattle.tree.specs.Trees.{moveOf}
+use Rattle.tree.specs.Parts.{moveOf}
 use Rattle.game.specs.declared.Position.{Position}
 use Rattle.moves.specs.declared.Step.{Step}
 use Rattle.moves.specs.declared.Step.the-variants as step

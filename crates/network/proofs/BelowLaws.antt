@@ -8,7 +8,8 @@ use native.Mathlib.Nat.{not-suc-le-zero}
 use native.Mathlib.Numerals.{add-one}
 use native.Mathlib.Decide.{decLt, ℕ-discrete}
 use lib.Dec.{eqb}
-use Rattle.network.specs.Mask.{digit, count, allBelow, anyBelow, firstBelow, sumBelow}
+use Rattle.network.specs.Mask.{digit, count, allBelow, firstBelow}
+use Rattle.network.specs.Below.{anyBelow, sumBelow}
 use Rattle.network.proofs.Booleans.{by-test, clash, and-left, and-right, and-make, or-right, eqb-yes, eqb-no, eqb-is}
 
 -- ---- all, some

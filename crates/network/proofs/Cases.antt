@@ -10,12 +10,14 @@ use native.Mathlib.Nat.{not-suc-le-zero}
 use native.Mathlib.Decide.{decLt}
 use lib.Dec.{leb, eqb}
 use lib.IntN.{ℤ, pos, negsuc}
-use Rattle.network.specs.Mask.{bit, mask, count, allBelow, anyBelow, firstBelow, joinBelow, sumBelow, submask}
+use Rattle.network.specs.Mask.{bit, mask, count, allBelow, firstBelow, joinBelow, submask}
+use Rattle.network.specs.Below.{anyBelow, sumBelow}
 use Rattle.network.specs.Network.{Constraint, Network, Schedule, condition, holds, projected, atMost, feasible, keeps}
 use Rattle.network.specs.Strategy.{ConditionScenario, Strategy, Viable, InHistory, SameHistory, Dynamic}
 use Rattle.network.specs.Fixed.{ScheduleFor, Least, Setting, PassesScreen}
 use Rattle.network.specs.Game.{start, Move, Legal, after}
-use Rattle.network.specs.Tree.{preorder, nodes}
+use Rattle.network.specs.Tree.{preorder}
+use Rattle.network.specs.Sizes.{nodes}
 use Rattle.network.specs.Search.{over, winsBy, winsWith, winsIn, winnable, firstMove, firstTreeFrom, firstTree, hopeless}
 use Rattle.network.specs.FirstMoves.{Before}
 use Rattle.network.specs.Crew.{Step, timesPerformed, slotBySteps, valueBySteps, Some, Hears}

@@ -8,10 +8,12 @@ use Prim.Native.Nat.{ℕ, _≤_, _<_}
 use native.Mathlib.Omega.{arith}
 use native.Mathlib.Decide.{decLt}
 use Rattle.network.specs.Mask.{bit}
-use Rattle.network.specs.Network.{Network, condition, IsNetwork}
+use Rattle.network.specs.Network.{Network, condition}
+use Rattle.network.specs.IsNetwork.{IsNetwork}
 use Rattle.network.specs.Game.{State, Move, hears, after, Over}
 use Rattle.network.specs.Tree.{Tree, done, node, Sound}
-use Rattle.network.specs.Crew.{Step, Follows, AtEnd, stateAfter, Some, Hears, HeardAlike, ToldAlike}
+use Rattle.network.specs.Crew.{Step, Some, Hears, HeardAlike, ToldAlike}
+use Rattle.network.specs.Walks.{Follows, AtEnd, stateAfter}
 use Rattle.network.proofs.Booleans.{by-test, clash}
 use Rattle.network.proofs.MaskLaws.{bits-ext}
 use Rattle.network.proofs.NetworkLaws.{condition-point}

@@ -7,11 +7,13 @@ use Prim.Native.Nat.{ℕ, zero, suc, _≤_, _<_}
 use native.Mathlib.Omega.{arith}
 use native.Mathlib.Decide.{decLt}
 use Rattle.network.specs.Mask.{bit, count}
-use Rattle.network.specs.Network.{Network, IsNetwork}
+use Rattle.network.specs.Network.{Network}
+use Rattle.network.specs.IsNetwork.{IsNetwork}
 use Rattle.network.specs.Strategy.{DynamicallyConsistent}
 use Rattle.network.specs.Game.{State, start, Move, Legal, after, kept, Kept}
 use Rattle.network.specs.Tree.{Tree, done, node, Sound}
-use Rattle.network.specs.FirstMoves.{CanBeWon, Winning, Before, FirstMoves, SameTree}
+use Rattle.network.specs.FirstMoves.{CanBeWon, Winning, Before, FirstMoves}
+use Rattle.network.specs.Walks.{SameTree}
 use Rattle.network.specs.Search.{over, winnable, firstMove, firstTreeFrom, firstTree, hopeless}
 use Rattle.network.proofs.Booleans.{by-test, clash, and-left, and-right, and-make, not-false}
 use Rattle.network.proofs.BelowLaws.{count-le, count-none}

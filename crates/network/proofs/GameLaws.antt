@@ -2,7 +2,8 @@
 use mathlib.Core.Path.{_≡_, refl, sym, _∙_}
 use mathlib.Core.Bool.{true, false, not, _&&_, and-false}
 use Prim.Native.Nat.{ℕ, suc, _<_}
-use Rattle.network.specs.Mask.{bit, count, rank}
+use Rattle.network.specs.Mask.{bit, count}
+use Rattle.network.specs.Below.{rank}
 use Rattle.network.specs.Network.{Network, condition, decision}
 use Rattle.network.specs.Game.{State, start, Move, hears, settles, Legal, Outcome, outcomes, outcomeAt, after, Over}
 use Rattle.network.proofs.Booleans.{by-test, clash, and-left, and-right, not-true}

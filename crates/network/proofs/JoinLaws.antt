@@ -8,7 +8,8 @@ use native.Mathlib.Nat.{not-suc-le-zero}
 use native.Mathlib.Decide.{decLt}
 use lib.ListN.{length, drop, length-append}
 use lib.Seq.{drop-at}
-use Rattle.network.specs.Mask.{sumBelow, joinBelow}
+use Rattle.network.specs.Mask.{joinBelow}
+use Rattle.network.specs.Below.{sumBelow}
 
 module _ {A : Type 0} where
   pub join-cong : (n : ℕ) (f g : ℕ → List A) → ((i : ℕ) → i < n → f i ≡ g i) → joinBelow n f ≡ joinBelow n g

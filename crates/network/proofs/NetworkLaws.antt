@@ -7,7 +7,8 @@ use Prim.Native.Nat.{ℕ, _<_}
 use native.Mathlib.Omega.{arith}
 use lib.Dec.{ltb}
 use Rattle.network.specs.Mask.{bit}
-use Rattle.network.specs.Network.{Label, Constraint, Network, Scenario, Schedule, condition, decision, combined, holds, projected, satisfies, feasible, keeps, Each, InNetwork, IsNetwork}
+use Rattle.network.specs.Network.{Label, Constraint, Network, Scenario, Schedule, condition, decision, combined, holds, projected, satisfies, feasible, keeps}
+use Rattle.network.specs.IsNetwork.{Each, InNetwork, IsNetwork}
 use Rattle.network.proofs.Booleans.{by-test, clash, not-true, and-left, and-right, and-make, ltb-yes, ltb-is}
 use Rattle.network.proofs.BelowLaws.{all-at, all-make, all-cong}
 

@@ -4,10 +4,11 @@ use mathlib.Core.Bool.{true, false}
 use Prim.Native.Nat.{ℕ, _≤_, _<_}
 use native.Mathlib.Omega.{arith}
 use Rattle.network.specs.Mask.{bit}
-use Rattle.network.specs.Network.{Network, condition, decision, IsNetwork}
+use Rattle.network.specs.Network.{Network, condition, decision}
+use Rattle.network.specs.IsNetwork.{IsNetwork}
 use Rattle.network.specs.Game.{State, start, Move, hears, Outcome, after, Over}
 use Rattle.network.specs.Tree.{Tree, done, node, Sound, outcomeOf, play, strategyOf}
-use Rattle.network.specs.FirstMoves.{SameTree}
+use Rattle.network.specs.Walks.{SameTree}
 use Rattle.network.proofs.Booleans.{by-test, clash, and-left}
 use Rattle.network.proofs.MaskLaws.{bit-mask, mask-cong, in-mask}
 use Rattle.network.proofs.NetworkLaws.{condition-lt, condition-point, decision-point}

@@ -8,8 +8,10 @@ use native.Mathlib.Omega.{arith}
 use native.Mathlib.Nat.{not-suc-le-zero}
 use native.Mathlib.Decide.{decLt, ℕ-discrete}
 use lib.Dec.{eqb, ltb}
-use Rattle.network.specs.Mask.{bit, mask, anyBelow}
-use Rattle.network.specs.Network.{Network, condition, decision, IsNetwork}
+use Rattle.network.specs.Mask.{bit, mask}
+use Rattle.network.specs.Below.{anyBelow}
+use Rattle.network.specs.Network.{Network, condition, decision}
+use Rattle.network.specs.IsNetwork.{IsNetwork}
 use Rattle.network.specs.Strategy.{ConditionScenario, Strategy, Viable, SameHistory, Dynamic, DynamicallyConsistent}
 use Rattle.network.specs.Policy.{Action, Observation, Policy, observe, heardBefore, actionIn, performsIn, slotBy, choicesBy, Succeeds, SucceedsAlways}
 use Rattle.network.proofs.Booleans.{by-test, and-left, and-right, ltb-yes, ltb-no, eqb-yes, eqb-no, eqb-is}

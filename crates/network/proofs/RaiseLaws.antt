@@ -11,7 +11,8 @@ use native.Mathlib.Decide.{decLt, ℕ-discrete}
 use lib.IntN.{ℤ, pos, negsuc}
 use lib.ListN.{length, length-set}
 use lib.Seq.{set-out, getD-set-same, getD-set-other, ext-getD}
-use Rattle.network.specs.Network.{Constraint, Network, Scenario, Schedule, slotsIn, holds, atMost, satisfies, keeps, Each, InNetwork, IsNetwork}
+use Rattle.network.specs.Network.{Constraint, Network, Scenario, Schedule, slotsIn, holds, atMost, satisfies, keeps}
+use Rattle.network.specs.IsNetwork.{Each, InNetwork, IsNetwork}
 use Rattle.network.specs.Raise.{leastFrom, asked, turn, turns, raised}
 use Rattle.network.proofs.Booleans.{by-test, clash, leb-yes, leb-is}
 use Rattle.network.proofs.NetworkLaws.{keeps-is}

@@ -5,7 +5,8 @@ use mathlib.Core.Logic.{_↔_, inl, inr}
 use mathlib.Core.Bool.{Bool, true}
 use Prim.Native.Nat.{ℕ, zero, suc, _-_, _<_}
 use native.Mathlib.Omega.{arith}
-use Rattle.network.specs.Mask.{bit, anyBelow, firstBelow, submask, rank}
+use Rattle.network.specs.Mask.{bit, firstBelow, submask}
+use Rattle.network.specs.Below.{anyBelow, rank}
 use Rattle.network.specs.Network.{Network}
 use Rattle.network.specs.Game.{State, Move, settles, Legal, Outcome, outcomes, outcomeAt, after, Over}
 use Rattle.network.specs.FirstMoves.{Before}

@@ -8,13 +8,28 @@ use native.Mathlib.Omega.{arith}
 use native.Mathlib.Nat.{not-suc-le-zero, pow-suc, mul-le-mul-left}
 use native.Mathlib.Decide.{decLt}
 use lib.Pow.{pow-add, pow-pos}
-use Rattle.network.specs.Mask.{bit, count}
-use Rattle.network.specs.Network.{Network, condition, IsNetwork}
+use lib.ListN.{length}
+use Rattle.network.specs.Mask.{bit, count, joinBelow}
+use Rattle.network.specs.Below.{sumBelow}
+use Rattle.network.specs.Network.{Network, condition}
+use Rattle.network.specs.IsNetwork.{IsNetwork}
 use Rattle.network.specs.Game.{State, start, Move, hears, Legal, outcomes, outcomeAt, after}
-use Rattle.network.specs.Tree.{Tree, done, node, Sound, nodes, pointsLeft, conditionsLeft, room}
+use Rattle.network.specs.Tree.{Tree, done, node, Sound, preorder}
+use Rattle.network.specs.Sizes.{nodes, pointsLeft, conditionsLeft, room}
 use Rattle.network.proofs.Booleans.{by-test, and-right, and-make}
 use Rattle.network.proofs.BelowLaws.{count-le, count-cong, count-split, count-inj, count-some, sum-le}
+use Rattle.network.proofs.JoinLaws.{join-lengths}
 use Rattle.network.proofs.GameLaws.{heard-point, left-is, outcome-at-is}
+
+-- the number of nodes is how many there are in order
+pub nodes-in-order : (net : Network) (t : Tree) → nodes net t ≡ length (preorder net t)
+unfolding nodes preorder
+nodes-in-order net done = refl
+nodes-in-order net (node m next) =
+    let below : length (joinBelow (outcomes net m) (λ k. preorder net (next (outcomeAt net m k))))
+    ≡ 1 * sumBelow (outcomes net m) (λ k. nodes net (next (outcomeAt net m k)))
+    = join-lengths (outcomes net m) 1 _ _ (λ k lt. let e = nodes-in-order net (next (outcomeAt net m k)) in omega arith) in
+    omega arith
 
 -- ---- numbers
 

@@ -7,10 +7,13 @@ use Prim.Native.Nat.{ℕ, _≤_, _<_}
 use native.Mathlib.Omega.{arith}
 use lib.ListN.{length}
 use Rattle.network.specs.Mask.{bit}
-use Rattle.network.specs.Network.{Network, combined, keeps, IsNetwork}
+use Rattle.network.specs.Network.{Network, combined, keeps}
+use Rattle.network.specs.IsNetwork.{IsNetwork}
 use Rattle.network.specs.Game.{State, start, Move, Legal, after, Kept}
-use Rattle.network.specs.Tree.{Tree, done, node, Sound, Wins, pointsLeft}
-use Rattle.network.specs.Crew.{Step, Follows, AtEnd, stateAfter, timesPerformed, slotBySteps, valueBySteps}
+use Rattle.network.specs.Tree.{Tree, done, node, Sound}
+use Rattle.network.specs.Walks.{Wins, Follows, AtEnd, stateAfter}
+use Rattle.network.specs.Sizes.{pointsLeft}
+use Rattle.network.specs.Crew.{Step, timesPerformed, slotBySteps, valueBySteps}
 use Rattle.network.proofs.Booleans.{by-test, clash}
 use Rattle.network.proofs.NetworkLaws.{condition-of, decision-of, keeps-cong}
 use Rattle.network.proofs.GameLaws.{not-again, all-left, performed, stays-performed, stays-left, fewer-left, slot-new, slot-old, heard-new, heard-old, decided-new, decided-old}

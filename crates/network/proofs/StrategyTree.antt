@@ -8,8 +8,10 @@ use native.Mathlib.Omega.{arith}
 use native.Mathlib.Nat.{not-suc-le-zero}
 use native.Mathlib.Decide.{decLt}
 use lib.Dec.{eqb}
-use Rattle.network.specs.Mask.{bit, mask, anyBelow}
-use Rattle.network.specs.Network.{Network, condition, decision, IsNetwork}
+use Rattle.network.specs.Mask.{bit, mask}
+use Rattle.network.specs.Below.{anyBelow}
+use Rattle.network.specs.Network.{Network, condition, decision}
+use Rattle.network.specs.IsNetwork.{IsNetwork}
 use Rattle.network.specs.Strategy.{ConditionScenario, Strategy, Viable, InHistory, SameHistory, Dynamic, DynamicallyConsistent}
 use Rattle.network.specs.Game.{State, start, Move, settles, Legal, after, Over, Kept}
 use Rattle.network.specs.Tree.{Tree, done, node, Sound}

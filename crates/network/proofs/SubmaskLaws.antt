@@ -7,7 +7,8 @@ use native.Mathlib.Omega.{arith}
 use native.Mathlib.Nat.{not-suc-le-zero, pow-suc, zero-add}
 use native.Mathlib.Decide.{decLt}
 use lib.Dec.{eqb}
-use Rattle.network.specs.Mask.{bit, mask, count, submask, rank}
+use Rattle.network.specs.Mask.{bit, mask, count, submask}
+use Rattle.network.specs.Below.{rank}
 use Rattle.network.proofs.Booleans.{by-test, clash, differs, eqb-is}
 use Rattle.network.proofs.BelowLaws.{count-cong, count-empty}
 use Rattle.network.proofs.MaskLaws.{bit-zero, no-bits, low-digit, high-digits}

@@ -5,14 +5,17 @@ use mathlib.Core.List.{List}
 use mathlib.Core.Bool.{true, false}
 use Prim.Native.Nat.{ℕ, suc, _*_, _≤_, _<_}
 use Rattle.network.specs.Mask.{bit}
-use Rattle.network.specs.Network.{Constraint, Network, Scenario, Schedule, holds, satisfies, keeps, Each, InNetwork, IsNetwork}
+use Rattle.network.specs.Network.{Constraint, Network, Scenario, Schedule, holds, satisfies, keeps}
+use Rattle.network.specs.IsNetwork.{Each, InNetwork, IsNetwork}
 use Rattle.network.specs.Strategy.{Viable, Dynamic, DynamicallyConsistent}
 use Rattle.network.specs.Game.{State, start, Move, Legal, outcomes, after, Over, Kept}
-use Rattle.network.specs.Tree.{Tree, Sound, Shaped, Wins, strategyOf, nodes, room}
-use Rattle.network.specs.FirstMoves.{CanBeWon, FirstMoves, SameTree}
+use Rattle.network.specs.Tree.{Tree, Sound, Shaped, strategyOf}
+use Rattle.network.specs.Walks.{Wins, SameTree, Follows, AtEnd, stateAfter}
+use Rattle.network.specs.Sizes.{nodes, room}
+use Rattle.network.specs.FirstMoves.{CanBeWon, FirstMoves}
 use Rattle.network.specs.Search.{firstTree, hopeless}
 use Rattle.network.specs.Policy.{Policy, SucceedsAlways}
-use Rattle.network.specs.Crew.{Step, Follows, AtEnd, stateAfter, timesPerformed, slotBySteps, valueBySteps, HeardAlike, ToldAlike}
+use Rattle.network.specs.Crew.{Step, timesPerformed, slotBySteps, valueBySteps, HeardAlike, ToldAlike}
 use Rattle.network.proofs.NetworkLaws as network
 use Rattle.network.proofs.TreeStrategy as tree
 use Rattle.network.proofs.FirstLaws as first

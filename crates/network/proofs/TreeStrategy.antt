@@ -5,10 +5,12 @@ use mathlib.Core.Logic.{_↔_}
 use mathlib.Core.Bool.{true, false}
 use Prim.Native.Nat.{ℕ, _<_}
 use Rattle.network.specs.Mask.{bit}
-use Rattle.network.specs.Network.{Network, condition, combined, keeps, IsNetwork}
+use Rattle.network.specs.Network.{Network, condition, combined, keeps}
+use Rattle.network.specs.IsNetwork.{IsNetwork}
 use Rattle.network.specs.Strategy.{ConditionScenario, Viable, SameHistory, Dynamic, DynamicallyConsistent}
 use Rattle.network.specs.Game.{State, start, Move, hears, Legal, Outcome, after, Kept}
-use Rattle.network.specs.Tree.{Tree, done, node, Sound, Shaped, Wins, outcomeOf, play, strategyOf}
+use Rattle.network.specs.Tree.{Tree, done, node, Sound, Shaped, outcomeOf, play, strategyOf}
+use Rattle.network.specs.Walks.{Wins}
 use Rattle.network.proofs.Booleans.{by-test, clash}
 use Rattle.network.proofs.MaskLaws.{bit-zero, bits-ext, in-mask}
 use Rattle.network.proofs.NetworkLaws.{combined-cong, keeps-cong, condition-point, decision-point}

@@ -1,4 +1,4 @@
--- Definitions: a crew on a tree: the steps that it followed; what it performed and set by them, what it heard and was told. A reader must
+-- Definitions: a crew: the steps that it followed; what it performed and set by them, what it heard and was told. A reader must
 -- believe this file.
 use mathlib.Core.Path.{_≡_}
 use mathlib.Core.Logic.{_↔_, _⊎_}
@@ -7,31 +7,12 @@ use mathlib.Core.Bool.{Bool, true, false, cond}
 use Prim.Native.Nat.{ℕ, _+_, _<_}
 use Rattle.network.specs.Mask.{bit, digit}
 use Rattle.network.specs.Network.{Network, Scenario, Schedule, combined}
-use Rattle.network.specs.Game.{State, Move, hears, Outcome, after}
-use Rattle.network.specs.Tree.{Tree, done, node}
+use Rattle.network.specs.Game.{Move, hears}
 
 -- an instruction that was followed, and the outcome then reported
 pub record Step : Type 0 where
   pub instruction : Move
   pub report : ℕ
-
--- the steps lead down the tree: each follows the instruction at its node, and reports an outcome of it
-unfoldable pub Follows : Network → Tree → List Step → Type 0
-Follows net t [] = Unit {0}
-Follows net done (st ∷ log) = ⊥
-Follows net (node m next) (st ∷ log) = (st .instruction ≡ m) × Outcome net m (st .report) × Follows net (next (st .report)) log
-
--- they lead to the end: the last node of the path has been reported (document 01: done)
-unfoldable pub AtEnd : Tree → List Step → Type 0
-AtEnd done [] = Unit {0}
-AtEnd done (st ∷ log) = ⊥
-AtEnd (node m next) [] = ⊥
-AtEnd (node m next) (st ∷ log) = AtEnd (next (st .report)) log
-
--- the state that they lead to
-unfoldable pub stateAfter : Network → State → List Step → State
-stateAfter net s [] = s
-stateAfter net s (st ∷ log) = stateAfter net (after net s (st .instruction) (st .report)) log
 
 -- A step performs the points of its instruction in its slot. How often x was performed; the slot of the first step that performed it.
 unfoldable pub timesPerformed : List Step → ℕ → ℕ

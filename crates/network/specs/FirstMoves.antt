@@ -29,10 +29,3 @@ FirstMoves net done s = Over net s
 FirstMoves net (node m next) s =
     Winning net s m × ((k : Move) → Winning net s k → ¬ Before k m)
     × ((o : ℕ) → Outcome net m o → FirstMoves net (next o) (after net s m o))
-
--- two trees are the same: the same moves, and the same trees after each outcome
-unfoldable pub SameTree : Network → Tree → Tree → Type 0
-SameTree net done done = Unit {0}
-SameTree net done (node m next) = ⊥
-SameTree net (node m next) done = ⊥
-SameTree net (node m next) (node m′ next′) = (m ≡ m′) × ((o : ℕ) → Outcome net m o → SameTree net (next o) (next′ o))

@@ -1,6 +1,6 @@
 -- Definitions: masks, and tests of all numbers below a bound. A reader must believe this file.
 use Prim.Native.Nat.{ℕ, zero, suc, _+_, _*_, _/_, _%_}
-use mathlib.Core.Bool.{Bool, true, false, cond, _&&_, _||_}
+use mathlib.Core.Bool.{Bool, true, false, cond, _&&_}
 use mathlib.Core.List.{List, [], _++_}
 use lib.Dec.{eqb}
 
@@ -23,14 +23,10 @@ unfoldable pub count : ℕ → (ℕ → Bool) → ℕ
 count zero f = 0
 count (suc n) f = digit (f zero) + count n (λ i. f (suc i))
 
--- whether all numbers below n have f; whether some have. (What a `let` binds is computed only where it is needed.)
+-- whether all numbers below n have f. (What a `let` binds is computed only where it is needed.)
 unfoldable pub allBelow : ℕ → (ℕ → Bool) → Bool
 allBelow zero f = true
 allBelow (suc n) f = let last = f n in allBelow n f && last
-
-unfoldable pub anyBelow : ℕ → (ℕ → Bool) → Bool
-anyBelow zero f = false
-anyBelow (suc n) f = let last = f n in anyBelow n f || last
 
 -- the first number below n that has f; n where none has it
 unfoldable pub firstBelow : ℕ → (ℕ → Bool) → ℕ
@@ -40,11 +36,7 @@ firstBelow (suc n) f =
     let next = suc later in
     cond (f zero) zero next
 
--- f 0 + f 1 + .. + f (n - 1); the lists f 0, f 1, .. f (n - 1) one after the other
-unfoldable pub sumBelow : ℕ → (ℕ → ℕ) → ℕ
-sumBelow zero f = 0
-sumBelow (suc n) f = sumBelow n f + f n
-
+-- the lists f 0, f 1, .. f (n - 1) one after the other
 unfoldable pub joinBelow : {A : Type 0} → ℕ → (ℕ → List A) → List A
 joinBelow zero f = []
 joinBelow (suc n) f = joinBelow n f ++ f n
@@ -54,8 +46,3 @@ joinBelow (suc n) f = joinBelow n f ++ f n
 unfoldable pub submask : ℕ → (ℕ → Bool) → ℕ → ℕ
 submask zero f k = 0
 submask (suc n) f k = cond (f zero) (k % 2 + 2 * submask n (λ i. f (suc i)) (k / 2)) (2 * submask n (λ i. f (suc i)) k)
-
--- The number of a mask among them: its digits at the members of the set.
-unfoldable pub rank : ℕ → (ℕ → Bool) → ℕ → ℕ
-rank zero f m = 0
-rank (suc n) f m = cond (f zero) (m % 2 + 2 * rank n (λ i. f (suc i)) (m / 2)) (rank n (λ i. f (suc i)) (m / 2))

@@ -1,8 +1,7 @@
 -- Definitions 1 to 5 of the paper (document 000): label, network, scenario, projection, schedule. A reader must believe this file.
-use mathlib.Core.Path.{_≡_}
 use mathlib.Core.Bool.{Bool, true, not, cond, _&&_, _||_, Bool·beq}
 use mathlib.Core.List.{List, [], _∷_}
-use Prim.Native.Nat.{ℕ, suc, _+_, _≤_, _<_}
+use Prim.Native.Nat.{ℕ, suc, _+_}
 use lib.IntN.{ℤ, pos, negsuc}
 use lib.Dec.{leb, ltb}
 use lib.ListN.{getD}
@@ -91,22 +90,3 @@ feasible ψ (c ∷ cs) = satisfies ψ c && feasible ψ cs
 -- What a constraint is, is known to this definition alone; everything else goes through it.
 unfoldable pub keeps : Network → Schedule → Scenario → Bool
 keeps net ψ s = feasible ψ (projection net s)
-
--- P of each member
-unfoldable pub Each : {A : Type 0} → (A → Type 0) → List A → Type 0
-Each P [] = Unit {0}
-Each P (x ∷ xs) = P x × Each P xs
-
--- X, Y ∈ T and the label is over P
-pub record InNetwork (net : Network) (c : Constraint) : Type 0 where
-  pub from-point : c .from < net .points
-  pub to-point : c .to < net .points
-  pub over-letters : (l : ℕ) → bit (c .label .need) l ≡ true → l < net .letters
-
--- What Definition 2 asks of the parts: O is one to one from P into T, and the constraints are over T and P. Masks are bytes, so P has at
--- most eight letters.
-pub record IsNetwork (net : Network) : Type 0 where
-  pub letters-in-a-byte : net .letters ≤ 8
-  pub disclosed : (l : ℕ) → l < net .letters → net .disclosing l < net .points
-  pub own : (l k : ℕ) → l < net .letters → k < net .letters → net .disclosing l ≡ net .disclosing k → l ≡ k
-  pub in-network : Each (InNetwork net) (net .constraints)

@@ -2,7 +2,8 @@
 -- need not believe this file for its own sake: proofs/Theorems.antt ties `hopeless` and `firstTree` to the definitions before it.
 use mathlib.Core.Bool.{Bool, not, cond, _&&_}
 use Prim.Native.Nat.{ℕ, zero, suc, _+_, _-_, _^_}
-use Rattle.network.specs.Mask.{bit, allBelow, anyBelow, firstBelow, count, submask}
+use Rattle.network.specs.Mask.{bit, allBelow, firstBelow, count, submask}
+use Rattle.network.specs.Below.{anyBelow}
 use Rattle.network.specs.Network.{Network}
 use Rattle.network.specs.Game.{State, start, Move, settles, outcomes, outcomeAt, after, kept}
 use Rattle.network.specs.Tree.{Tree, done, node}

@@ -1,11 +1,11 @@
--- Definitions: strategy trees, what makes one sound, the strategy that one describes, its number of nodes. A reader must believe this file.
+-- Definitions: strategy trees, what makes one sound, the strategy that one describes, its nodes in order. A reader must believe this file.
 use mathlib.Core.Bool.{_&&_}
-use Prim.Native.Nat.{ℕ, suc, _+_, _-_, _*_, _^_}
+use Prim.Native.Nat.{ℕ}
 use mathlib.Core.List.{List, [], _∷_}
-use Rattle.network.specs.Mask.{bit, mask, count, sumBelow, joinBelow}
-use Rattle.network.specs.Network.{Network, conditionAt}
+use Rattle.network.specs.Mask.{bit, mask, joinBelow}
+use Rattle.network.specs.Network.{Network}
 use Rattle.network.specs.Strategy.{Strategy}
-use Rattle.network.specs.Game.{State, start, Move, hears, Legal, Outcome, outcomes, outcomeAt, after, Over, Kept}
+use Rattle.network.specs.Game.{State, start, Move, hears, Legal, Outcome, outcomes, outcomeAt, after, Over}
 
 -- A strategy tree: a move, and for each outcome the tree that goes on from it; `done` stands behind the last node of a path.
 pub data Tree : Type 0 where
@@ -20,10 +20,6 @@ Sound net E (node m next) s = Legal net s m × ((o : ℕ) → Outcome net m o �
 -- sound in shape: nothing is asked of where a path ends
 abbrev pub Shaped : Network → Tree → Type 0
 Shaped net t = Sound net (λ s. Unit {0}) t (start net)
-
--- every path keeps every constraint whose label holds on it
-abbrev pub Wins : Network → Tree → Type 0
-Wins net t = Sound net (Kept net) t (start net)
 
 -- what is heard of a condition scenario after a move
 unfoldable pub outcomeOf : Network → Move → ℕ → ℕ
@@ -42,19 +38,3 @@ strategyOf net t = record { time = λ cs. play net t (start net) cs .slots; choi
 unfoldable pub preorder : Network → Tree → List Move
 preorder net done = []
 preorder net (node m next) = m ∷ joinBelow (outcomes net m) (λ k. preorder net (next (outcomeAt net m k)))
-
--- the number of nodes: one, and those of the subtree of each outcome
-unfoldable pub nodes : Network → Tree → ℕ
-nodes net done = 0
-nodes net (node m next) = suc (sumBelow (outcomes net m) (λ k. nodes net (next (outcomeAt net m k))))
-
--- The room that a state leaves: 2 ^ c * (d + 1), where c conditions are left to hear and d other points are left to perform. A sound tree
--- from there has fewer nodes.
-abbrev pub pointsLeft : Network → State → ℕ
-pointsLeft net s = count (net .points) (bit (s .left))
-
-abbrev pub conditionsLeft : Network → State → ℕ
-conditionsLeft net s = count (net .letters) (conditionAt net (s .left))
-
-unfoldable pub room : Network → State → ℕ
-room net s = 2 ^ conditionsLeft net s * (pointsLeft net s - conditionsLeft net s + 1)

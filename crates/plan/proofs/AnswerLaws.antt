@@ -6,7 +6,8 @@ use lib.Dec.{eqb}
 use Rattle.network.proofs.Booleans.{by-test, clash, eqb-is, eqb-yes, eqb-no}
 use Rattle.plan.specs.declared.Refusal.{Refusal}
 use Rattle.plan.specs.Refusal.{refusalNumber}
-use Rattle.plan.specs.Answer.{unless, first, Answer, fine, refused, answered}
+use Rattle.plan.specs.Answer.{Answer, fine, refused}
+use Rattle.plan.specs.Faults.{unless, first, answered}
 use Rattle.plan.proofs.RefusalLaws.{no-refusal, some-number}
 
 -- ---- faults

@@ -5,7 +5,8 @@ use mathlib.Core.List.{List, [], _∷_, _++_}
 use mathlib.Core.Bool.{true, false}
 use Prim.Native.Nat.{ℕ, _-_}
 use lib.ListN.{length, replicate}
-use Rattle.network.specs.Mask.{bit, mask, count, allBelow, anyBelow, firstBelow, joinBelow, submask}
+use Rattle.network.specs.Mask.{bit, mask, count, allBelow, firstBelow, joinBelow, submask}
+use Rattle.network.specs.Below.{anyBelow}
 use Rattle.network.specs.Network.{holds, projected, atMost, feasible, keeps}
 use Rattle.network.specs.Game.{start, Move, after}
 use Rattle.network.specs.Tree.{preorder}
@@ -13,7 +14,8 @@ use Rattle.network.specs.Search.{over, winsBy, winsWith, winsIn, winnable, firs
 use Rattle.plan.specs.declared.Letter.{Letter}
 use Rattle.plan.specs.declared.Constraint.{Constraint}
 use Rattle.plan.specs.declared.Plan.{Plan}
-use Rattle.plan.specs.Answer.{first, Answer, answered, andThen, filled}
+use Rattle.plan.specs.Answer.{Answer}
+use Rattle.plan.specs.Faults.{first, answered, andThen, filled}
 use Rattle.plan.specs.Plan.{zeroLetter, zeroConstraint, signed, listed, networkOf}
 
 -- disclosing point, kind

@@ -14,7 +14,7 @@ use Rattle.network.proofs.MaskLaws.{mask-cong, mask-lt, bit-mask, bit-mask-abov
 use Rattle.plan.specs.declared.Letter.{Letter}
 use Rattle.plan.specs.declared.Plan.{Plan}
 use Rattle.plan.specs.Plan.{letterAt, networkOf}
-use Rattle.plan.specs.Letters.{ofKind}
+use Rattle.plan.specs.Settled.{ofKind}
 
 -- ---- a mask by its letters, the highest first
 

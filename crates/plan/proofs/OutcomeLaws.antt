@@ -10,7 +10,8 @@ use Rattle.network.proofs.NetworkLaws.{condition-lt, decision-lt}
 use Rattle.network.proofs.GameLaws.{heard-condition, settled-decision}
 use Rattle.plan.specs.declared.Plan.{Plan}
 use Rattle.plan.specs.Plan.{networkOf}
-use Rattle.plan.specs.Letters.{heardBy, settledBy}
+use Rattle.plan.specs.Letters.{heardBy}
+use Rattle.plan.specs.Settled.{settledBy}
 
 module _ (p : Plan) (few : p .letters ≤ 6) (m : Move) where
   pub heard-by-is : heardBy p (m .points) ≡ mask (p .letters) (hears (networkOf p) m)

@@ -2,7 +2,7 @@
 use mathlib.Core.Path.{_≡_, refl}
 use Prim.Native.Nat.{ℕ, zero, suc, _<_}
 use native.Mathlib.Omega.{arith}
-use Rattle.network.specs.Network.{Each, IsNetwork, InNetwork}
+use Rattle.network.specs.IsNetwork.{Each, IsNetwork, InNetwork}
 use Rattle.plan.specs.declared.Plan.{Plan}
 use Rattle.plan.specs.Plan.{listed, networkOf}
 use Rattle.plan.specs.WellFormed.{WellFormed}

@@ -1,8 +1,9 @@
 -- Theorems on well-formed plans: the network of one meets every premise of the theorems on networks. Read the statements; only the checker
 -- need believe the proofs.
 use Prim.Native.Nat.{_≤_}
-use Rattle.network.specs.Network.{IsNetwork}
-use Rattle.network.specs.Tree.{Tree, Shaped, nodes}
+use Rattle.network.specs.IsNetwork.{IsNetwork}
+use Rattle.network.specs.Tree.{Tree, Shaped}
+use Rattle.network.specs.Sizes.{nodes}
 use Rattle.network.proofs.Theorems as theorems
 use Rattle.plan.specs.declared.Plan.{Plan}
 use Rattle.plan.specs.Plan.{networkOf}

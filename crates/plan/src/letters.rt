@@ -6,7 +6,8 @@ ghost use mathlib.Core.Bool.{_&&_};
 ghost use Prim.Native.Nat.{ℕ, min, _<_};
 ghost use Rattle.network.specs.Mask.{bit, digit, mask};
 ghost use Rattle.plan.specs.Plan.{letterAt, networkOf};
-ghost use Rattle.plan.specs.Letters.{ofKind, heardBy, settledBy};
+ghost use Rattle.plan.specs.Letters.{heardBy};
+ghost use Rattle.plan.specs.Settled.{ofKind, settledBy};
 
 fn one_if(b: bool) -> u8
     ensures { λ r. ⌜ r ≡ digit b ⌝ }

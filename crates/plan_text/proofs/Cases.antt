@@ -5,16 +5,19 @@ use mathlib.Core.List.{List, [], _∷_}
 use Prim.Native.Nat.{ℕ}
 use Prim.Native.String.{String}
 use lib.ListN.{replicate}
-use Rattle.network.specs.Mask.{allBelow, anyBelow, joinBelow}
+use Rattle.network.specs.Mask.{allBelow, joinBelow}
+use Rattle.network.specs.Below.{anyBelow}
 use Rattle.plan.specs.declared.Plan.{Plan}
-use Rattle.plan.specs.Answer.{unless, first, fine, answered, andThen}
+use Rattle.plan.specs.Answer.{fine}
+use Rattle.plan.specs.Faults.{unless, first, answered, andThen}
 use Rattle.plan.specs.Plan.{zeroLetter, zeroConstraint, zeroPlan}
 use Rattle.judge.specs.Judge.{headFine, takenBefore, letterFine, letterUnused, letterEntry, lettersFine, boundFine, constraintFine, constraintUnused, constraintEntry, constraintsFine, planFault}
-use Rattle.frame.specs.Hex.{digitOf, pairOf, hexDigit}
-use Rattle.frame.specs.Frame.{byteAt, whole}
+use Rattle.frame.specs.Hex.{hexDigit}
+use Rattle.frame.specs.ReadFrame.{digitOf, pairOf, byteAt, whole}
 use Rattle.frame.specs.Texts.{frameFault, framesFrom, atEnd}
 use Rattle.frame.specs.Characters.{characters}
-use Rattle.plan_text.specs.PlanText.{planText, writePlan}
+use Rattle.plan_text.specs.PlanText.{planText}
+use Rattle.plan_text.specs.WritePlan.{writePlan}
 use Rattle.plan_text.specs.ReadPlan.{readHead, readLetter, readConstraint, readPlan}
 
 -- ---- the listing of document 01, K4

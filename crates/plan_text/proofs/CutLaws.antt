@@ -6,7 +6,7 @@ use native.Mathlib.Omega.{arith}
 use lib.ListN.{length, length-append}
 use Rattle.plan.specs.declared.Plan.{Plan}
 use Rattle.plan.specs.WellFormed.{WellFormed}
-use Rattle.frame.specs.Frame.{byteAt, valueAt}
+use Rattle.frame.specs.ReadFrame.{byteAt, valueAt}
 use Rattle.frame.proofs.FrameLaws.{bytes-more, value-back}
 use Rattle.plan_text.specs.PlanText.{planText}
 use Rattle.plan_text.proofs.LengthLaws.{plan-length}

@@ -20,7 +20,7 @@ use Rattle.plan.proofs.AnswerLaws.{answered-fault}
 use Rattle.judge.specs.Judge.{letterFine, constraintFine}
 use Rattle.judge.proofs.JudgeLaws.{headOf}
 use Rattle.judge.proofs.WellFormedLaws.{head-exactly, says-constraint}
-use Rattle.frame.specs.Frame.{frameLength, valueAt, whole}
+use Rattle.frame.specs.ReadFrame.{frameLength, valueAt, whole}
 use Rattle.frame.proofs.FrameLaws.{bytes, bytes-more, value-back, whole-back, whole-said}
 use Rattle.frame.proofs.RunLaws.{frame-broken, frame-bad, frame-read}
 use Rattle.plan_text.specs.PlanText.{headText, letterText, constraintText}

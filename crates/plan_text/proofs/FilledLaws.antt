@@ -13,7 +13,7 @@ use Rattle.network.specs.Mask.{joinBelow}
 use Rattle.network.proofs.JoinLaws.{join-cong}
 use Rattle.plan.specs.Answer.{Answer, fine}
 use Rattle.plan.proofs.SliceLaws.{all-same}
-use Rattle.frame.specs.Frame.{frameLength}
+use Rattle.frame.specs.ReadFrame.{frameLength}
 use Rattle.frame.specs.Texts.{framesFrom}
 use Rattle.frame.proofs.RunLaws.{run-back, run-split, run-stops}
 

@@ -14,7 +14,7 @@ use Rattle.plan.specs.Answer.{Answer}
 use Rattle.plan.specs.Plan.{zeroLetter, zeroPlan}
 use Rattle.plan.specs.WellFormed.{FineHead, FineConstraint}
 use Rattle.plan.proofs.RefusalLaws.{no-refusal}
-use Rattle.frame.specs.Frame.{frameLength}
+use Rattle.frame.specs.ReadFrame.{frameLength}
 use Rattle.frame.specs.Texts.{atEnd}
 use Rattle.frame.proofs.RunLaws.{then-refused, frames-refused, frames-end, at-end-extra}
 use Rattle.plan_text.specs.PlanText.{headText, letterText, constraintText}

@@ -3,10 +3,11 @@ use mathlib.Core.Path.{_≡_, refl}
 use mathlib.Core.List.{_++_}
 use Prim.Native.Nat.{_+_, _*_}
 use lib.ListN.{length, replicate, length-append}
-use Rattle.network.specs.Mask.{allBelow, anyBelow}
+use Rattle.network.specs.Mask.{allBelow}
+use Rattle.network.specs.Below.{anyBelow}
 use Rattle.network.proofs.JoinLaws.{join-length}
 use Rattle.plan.specs.declared.Plan.{Plan}
-use Rattle.plan.specs.Answer.{unless, first}
+use Rattle.plan.specs.Faults.{unless, first}
 use Rattle.plan.specs.Plan.{zeroConstraint, letterAt, constraintAt, listed}
 use Rattle.plan.specs.WellFormed.{WellFormed}
 use Rattle.judge.specs.Judge.{headFine, takenBefore, letterFine, letterEntry, lettersFine, boundFine, constraintFine, constraintEntry, constraintsFine, planFault}

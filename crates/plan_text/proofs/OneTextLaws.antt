@@ -14,13 +14,14 @@ use Rattle.plan.specs.declared.Letter.{Letter}
 use Rattle.plan.specs.declared.Constraint.{Constraint}
 use Rattle.plan.specs.declared.Plan.{Plan}
 use Rattle.plan.specs.declared.Refusal.the-variants as refusal
-use Rattle.plan.specs.Answer.{Answer, fine, andThen}
+use Rattle.plan.specs.Answer.{Answer, fine}
+use Rattle.plan.specs.Faults.{andThen}
 use Rattle.plan.specs.Plan.{zeroLetter, zeroConstraint, zeroPlan, letterAt, constraintAt}
 use Rattle.plan.specs.WellFormed.{FineHead, FineConstraint, WellFormed}
 use Rattle.judge.specs.Judge.{letterFine, constraintFine}
 use Rattle.judge.proofs.JudgeLaws.{headOf}
 use Rattle.judge.proofs.WellFormedLaws.{head-exactly, says-constraint}
-use Rattle.frame.specs.Frame.{frameLength, valueAt, whole}
+use Rattle.frame.specs.ReadFrame.{frameLength, valueAt, whole}
 use Rattle.frame.specs.Texts.{atEnd}
 use Rattle.frame.proofs.RunLaws.{frame-read-is, at-end}
 use Rattle.plan_text.specs.PlanText.{headText, letterText, constraintText, lettersText, planText}

@@ -16,12 +16,15 @@ use Rattle.plan.specs.Answer.{Answer, fine}
 use Rattle.plan.specs.Plan.{zeroLetter, zeroConstraint, zeroPlan, letterAt, constraintAt}
 use Rattle.plan.specs.WellFormed.{WellFormed}
 use Rattle.plan.proofs.RefusalLaws.{fine-is, refused-is, no-refusal}
-use Rattle.frame.specs.Frame.{Bytes, frameText, whole}
+use Rattle.frame.specs.Frame.{Bytes, frameText}
+use Rattle.frame.specs.ReadFrame.{whole}
 use Rattle.frame.proofs.FrameLaws as frames
 use Rattle.frame.proofs.RunLaws.{filled-front}
 use Rattle.plan_text.specs.declared.PlanRead.{PlanRead}
-use Rattle.plan_text.specs.PlanText.{planText, writePlan, writePlanLeaves}
-use Rattle.plan_text.specs.ReadPlan.{planReadAnswer, readPlan}
+use Rattle.plan_text.specs.PlanText.{planText}
+use Rattle.plan_text.specs.WritePlan.{writePlan, writePlanLeaves}
+use Rattle.plan_text.specs.ReadPlan.{readPlan}
+use Rattle.plan_text.specs.PlanRead.{planReadAnswer}
 use Rattle.plan_text.specs.FirstFault.{FineFront, FirstFault}
 use Rattle.plan_text.proofs.LengthLaws.{plan-length, longest, longest-fine}
 use Rattle.plan_text.proofs.ReadBackLaws.{read-back}

@@ -12,7 +12,8 @@ use Rattle.plan.specs.declared.Letter.{Letter}
 use Rattle.plan.specs.declared.Constraint.{Constraint}
 use Rattle.plan.specs.declared.Plan.{Plan}
 use Rattle.plan.specs.declared.Refusal.the-variants as refusal
-use Rattle.plan.specs.Answer.{Answer, fine, andThen}
+use Rattle.plan.specs.Answer.{Answer, fine}
+use Rattle.plan.specs.Faults.{andThen}
 use Rattle.plan.specs.Plan.{zeroLetter, zeroConstraint, zeroPlan, letterAt, constraintAt}
 use Rattle.plan.specs.WellFormed.{FineHead, FineConstraint, WellFormed}
 use Rattle.frame.specs.Texts.{framesFrom, atEnd}

@@ -9,9 +9,10 @@ use Rattle.plan.specs.declared.Plan.{Plan}
 use Rattle.plan.specs.declared.Refusal.{Refusal}
 use Rattle.plan.specs.declared.Refusal.the-variants as refusal
 use Rattle.plan.specs.Refusal.{refusalNumber}
-use Rattle.plan.specs.Answer.{unless, Answer, answered}
+use Rattle.plan.specs.Answer.{Answer}
+use Rattle.plan.specs.Faults.{unless, answered}
 use Rattle.plan.specs.Plan.{zeroPlan}
-use Rattle.frame.specs.Frame.{frameLength}
+use Rattle.frame.specs.ReadFrame.{frameLength}
 use Rattle.frame.specs.Texts.{frameFault, atEnd}
 use Rattle.plan.proofs.AnswerLaws.{unless-of, ZeroBeside, answered-fault, answered-zero}
 use Rattle.frame.proofs.RunLaws.{frame-fault-of, then-each, run-each}

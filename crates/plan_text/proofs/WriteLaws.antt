@@ -14,9 +14,10 @@ use Rattle.plan.specs.Plan.{letterAt, constraintAt}
 use Rattle.judge.specs.Judge.{planFault}
 use Rattle.frame.specs.declared.Written.{Written}
 use Rattle.frame.specs.declared.Written.the-variants as written
-use Rattle.frame.specs.Texts.{writtenAnswer}
+use Rattle.frame.specs.Written.{writtenAnswer}
 use Rattle.frame.proofs.WritingLaws.{sets-append, write-refused, write-short, write-done}
-use Rattle.plan_text.specs.PlanText.{headText, letterText, constraintText, lettersText, constraintsText, planText, writePlan, writePlanLeaves}
+use Rattle.plan_text.specs.PlanText.{headText, letterText, constraintText, lettersText, constraintsText, planText}
+use Rattle.plan_text.specs.WritePlan.{writePlan, writePlanLeaves}
 use Rattle.plan_text.proofs.LengthLaws.{plan-length}
 
 module _ (p : Plan) where

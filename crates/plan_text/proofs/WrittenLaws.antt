@@ -5,10 +5,12 @@ use Prim.Native.Nat.{ℕ, _≤_}
 use lib.ListN.{length}
 use Rattle.network.proofs.Booleans.{leb-yes}
 use Rattle.plan.specs.declared.Plan.{Plan}
-use Rattle.plan.specs.Answer.{unless, first, fine, answered}
+use Rattle.plan.specs.Answer.{fine}
+use Rattle.plan.specs.Faults.{unless, first, answered}
 use Rattle.plan.specs.WellFormed.{WellFormed}
 use Rattle.judge.proofs.WellFormedLaws.{fine-exactly}
-use Rattle.plan_text.specs.PlanText.{planText, writePlan}
+use Rattle.plan_text.specs.PlanText.{planText}
+use Rattle.plan_text.specs.WritePlan.{writePlan}
 
 -- with room for its text a well-formed plan is written
 pub written-fine :

@@ -12,7 +12,8 @@ use Rattle.plan.specs.declared.Refusal.the-variants as refusal
 use Rattle.plan.specs.Refusal.{refusalNumber}
 use Rattle.plan.specs.Plan.{letterAt, constraintAt}
 use Rattle.plan.specs.WellFormed.{FineHead, FineConstraint}
-use Rattle.frame.specs.Frame.{Bytes, whole}
+use Rattle.frame.specs.Frame.{Bytes}
+use Rattle.frame.specs.ReadFrame.{whole}
 use Rattle.plan_text.specs.PlanText.{headText, letterText, constraintText}
 
 -- ---- the frames before it

@@ -1,16 +1,12 @@
--- Definitions: the text of a plan, and writing it into a lent buffer. A reader must believe this file.
+-- Definitions: the text of a plan. A reader must believe this file.
 use mathlib.Core.List.{List, [], _∷_, _++_}
 use Prim.Native.Nat.{ℕ, _/_, _%_}
-use lib.ListN.{length}
 use Rattle.network.specs.Mask.{joinBelow}
 use Rattle.plan.specs.declared.Letter.{Letter}
 use Rattle.plan.specs.declared.Constraint.{Constraint}
 use Rattle.plan.specs.declared.Plan.{Plan}
-use Rattle.plan.specs.Answer.{first, Answer, answered, filled}
 use Rattle.plan.specs.Plan.{letterAt, constraintAt}
-use Rattle.judge.specs.Judge.{planFault}
 use Rattle.frame.specs.Frame.{frameText}
-use Rattle.frame.specs.Texts.{roomFault}
 
 -- 01 head: horizon, points, letters, constraints
 abbrev pub headText : Plan → List ℕ
@@ -33,11 +29,3 @@ constraintsText p = joinBelow (p .constraints) (λ j. constraintText (constraint
 -- one 01, then its 02s, then its 03s
 unfoldable pub planText : Plan → List ℕ
 planText p = headText p ++ lettersText p ++ constraintsText p
-
--- 2, 3, 4, 10; else the text's length
-unfoldable pub writePlan : Plan → List ℕ → Answer ℕ
-writePlan p xs = answered 0 (first (planFault p) (roomFault (planText p) xs)) (length (planText p))
-
--- what that leaves in the buffer
-abbrev pub writePlanLeaves : Plan → List ℕ → List ℕ
-writePlanLeaves p xs = filled (writePlan p xs .fault) (planText p) xs

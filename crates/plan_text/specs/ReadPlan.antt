@@ -9,17 +9,12 @@ use Rattle.plan.specs.declared.Letter.{Letter}
 use Rattle.plan.specs.declared.Constraint.{Constraint}
 use Rattle.plan.specs.declared.Plan.{Plan}
 use Rattle.plan.specs.declared.Refusal.the-variants as refusal
-use Rattle.plan.specs.Refusal.{judgedNumber}
-use Rattle.plan.specs.Answer.{Answer, answered, andThen}
+use Rattle.plan.specs.Answer.{Answer}
+use Rattle.plan.specs.Faults.{answered, andThen}
 use Rattle.plan.specs.Plan.{zeroPlan}
 use Rattle.judge.specs.Judge.{headFine, letterFine, constraintFine}
-use Rattle.frame.specs.Frame.{frameLength, valueAt, whole}
+use Rattle.frame.specs.ReadFrame.{frameLength, valueAt, whole}
 use Rattle.frame.specs.Texts.{frameFault, framesFrom, atEnd}
-use Rattle.plan_text.specs.declared.PlanRead.{PlanRead}
-
--- fault and value of an answer
-abbrev pub planReadAnswer : PlanRead → Answer Plan
-planReadAnswer r = record { fault = judgedNumber (r .answer); value = r .plan }
 
 -- ---- the head
 

@@ -8,10 +8,11 @@ use plan::Refusal;
 ghost use mathlib.Core.Path.{_≡_};
 ghost use Rattle.plan.specs.declared.Refusal.the-variants as refusal;
 ghost use Rattle.plan.specs.Refusal.{judgedNumber};
-ghost use Rattle.plan.specs.Answer.{answered};
+ghost use Rattle.plan.specs.Faults.{answered};
 ghost use Rattle.plan.specs.Plan.{zeroPlan};
 ghost use Rattle.frame.specs.Texts.{atEnd};
-ghost use Rattle.plan_text.specs.ReadPlan.{planReadAnswer, readHead, readLetter, readConstraint, readConstraints, readLetters, readPlan};
+ghost use Rattle.plan_text.specs.ReadPlan.{readHead, readLetter, readConstraint, readConstraints, readLetters, readPlan};
+ghost use Rattle.plan_text.specs.PlanRead.{planReadAnswer};
 
 // The plan beside fine, and zeros beside a refusal.
 fn answered_plan(answer: Judged, plan: Plan) -> PlanRead

@@ -11,8 +11,9 @@ ghost use mathlib.Core.Path.{_≡_};
 ghost use Prim.Native.Nat.{_+_, _*_, _≤_};
 ghost use lib.ListN.{length};
 ghost use lib.Seq.{sets};
-ghost use Rattle.frame.specs.Texts.{writtenAnswer};
-ghost use Rattle.plan_text.specs.PlanText.{headText, letterText, constraintText, lettersText, constraintsText, writePlan, writePlanLeaves};
+ghost use Rattle.frame.specs.Written.{writtenAnswer};
+ghost use Rattle.plan_text.specs.PlanText.{headText, letterText, constraintText, lettersText, constraintsText};
+ghost use Rattle.plan_text.specs.WritePlan.{writePlan, writePlanLeaves};
 
 fn put_head(out: &mut [u8], p: Plan)
     requires { ⌜ 11 ≤ length (now out) ⌝ }

@@ -9,7 +9,7 @@ use Rattle.plan.specs.declared.Plan.{Plan}
 use Rattle.plan.specs.Plan.{networkOf}
 use Rattle.plan.specs.WellFormed.{WellFormed}
 use Rattle.tree.specs.declared.Node.{Node}
-use Rattle.tree.specs.Trees.{moveOf}
+use Rattle.tree.specs.Parts.{moveOf}
 use Rattle.game.specs.declared.Position.{Position}
 use Rattle.game.specs.Position.{stateOf, Proper}
 use Rattle.game.proofs.NextLaws.{next, next-is}

@@ -9,7 +9,8 @@ use native.Mathlib.Nat.{pow-suc}
 use native.Mathlib.Decide.{decLt}
 use lib.Bits.{bitXor}
 use Rattle.network.specs.Mask.{bit, mask}
-use Rattle.network.specs.Network.{Network, condition, decision, conditionAt, decisionAt, combined, keeps, IsNetwork}
+use Rattle.network.specs.Network.{Network, condition, decision, conditionAt, decisionAt, combined, keeps}
+use Rattle.network.specs.IsNetwork.{IsNetwork}
 use Rattle.network.specs.Game.{State, Kept, after}
 use Rattle.network.specs.Tree.{Tree, done, node, Sound, outcomeOf, play}
 use Rattle.network.proofs.Booleans.{by-test, and-left, and-right, and-make}

@@ -27,7 +27,7 @@ use Rattle.network.proofs.PathLaws.{SameAt, slot-first}
 use Rattle.network.proofs.FirstLaws.{found→sound, winnable-exactly}
 use Rattle.plan.specs.declared.Plan.{Plan}
 use Rattle.plan.specs.Plan.{letterAt, networkOf}
-use Rattle.plan.specs.Letters.{settledBy}
+use Rattle.plan.specs.Settled.{settledBy}
 use Rattle.plan.specs.WellFormed.{WellFormed}
 use Rattle.plan.proofs.PlanLaws.{network-of-well-formed}
 use Rattle.constraints.specs.Rows.{rowsSay}

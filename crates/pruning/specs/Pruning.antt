@@ -9,7 +9,8 @@ use Rattle.network.specs.Mask.{mask}
 use Rattle.plan.specs.declared.Letter.{Letter}
 use Rattle.plan.specs.declared.Plan.{Plan}
 use Rattle.plan.specs.Plan.{zeroLetter, letterAt, listed}
-use Rattle.plan.specs.Letters.{heardBy, settledBy}
+use Rattle.plan.specs.Letters.{heardBy}
+use Rattle.plan.specs.Settled.{settledBy}
 use Rattle.table.specs.declared.View.{View}
 use Rattle.game.specs.declared.Position.{Position}
 use Rattle.game.specs.Position.{slotsAfter}

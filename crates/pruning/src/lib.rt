@@ -18,7 +18,7 @@ ghost use Rattle.network.specs.FirstMoves.{CanBeWon, Winning};
 ghost use Rattle.plan.specs.Plan.{networkOf};
 ghost use Rattle.plan.specs.WellFormed.{WellFormed};
 ghost use Rattle.constraints.specs.Rows.{rowsSay};
-ghost use Rattle.tree.specs.Trees.{moveOf};
+ghost use Rattle.tree.specs.Parts.{moveOf};
 ghost use Rattle.game.specs.Position.{stateOf, Proper};
 ghost use Rattle.pruning.specs.Pruning.{outlineOf};
 

@@ -10,7 +10,7 @@ use lib.Seq.{sets, drop-cons, drop-length}
 use Rattle.network.proofs.JoinLaws.{join-length}
 use Rattle.plan.specs.declared.Plan.{Plan}
 use Rattle.plan.specs.Plan.{letterAt, constraintAt, listed}
-use Rattle.plan.specs.Answer.{putAt}
+use Rattle.plan.specs.Faults.{putAt}
 use Rattle.plan.proofs.SliceLaws.{padded, put-next}
 use Rattle.frame.proofs.WritingLaws.{sets-append}
 use Rattle.game.proofs.CodeLaws.{length-listed}

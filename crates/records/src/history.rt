@@ -3,7 +3,7 @@ use crate::storing;
 use plan::bytes;
 use run::History;
 ghost use mathlib.Core.Path.{_≡_};
-ghost use Rattle.plan.specs.Answer.{putAt};
+ghost use Rattle.plan.specs.Faults.{putAt};
 ghost use Rattle.records.specs.Records.{historyIn, historyBytes};
 
 // How many bytes the record of a history has.

@@ -9,7 +9,7 @@ ghost use Prim.Native.Nat.{_+_, _*_, _≤_};
 ghost use lib.ListN.{length};
 ghost use lib.Seq.{sets};
 ghost use Rattle.plan.specs.Plan.{listed};
-ghost use Rattle.plan.specs.Answer.{putAt};
+ghost use Rattle.plan.specs.Faults.{putAt};
 ghost use Rattle.records.specs.Records.{letterFrom, constraintFrom, planIn, letterBytes, constraintBytes, lettersBytes, constraintsBytes, planBytes};
 
 // How many bytes the record of a plan has.

@@ -3,7 +3,7 @@ ghost use mathlib.Core.Path.{_≡_};
 ghost use Prim.Native.Nat.{_+_, _≤_};
 ghost use lib.ListN.{length};
 ghost use lib.Seq.{sets};
-ghost use Rattle.plan.specs.Answer.{putAt};
+ghost use Rattle.plan.specs.Faults.{putAt};
 
 // Bytes where there is room for them.
 fn store(out: &mut [u8], at: usize, bytes: &[u8])

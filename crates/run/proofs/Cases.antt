@@ -5,13 +5,15 @@ use mathlib.Core.Bool.{cond}
 use mathlib.Core.List.{List, [], _∷_, _++_}
 use Prim.Native.Nat.{ℕ, _-_}
 use lib.ListN.{length, replicate}
-use Rattle.network.specs.Mask.{bit, mask, count, allBelow, anyBelow, submask, rank}
+use Rattle.network.specs.Mask.{bit, mask, count, allBelow, submask}
+use Rattle.network.specs.Below.{anyBelow, rank}
 use Rattle.network.specs.Network.{holds, projected, atMost, feasible, keeps}
 use Rattle.network.specs.Game.{start, Move, after}
 use Rattle.network.specs.Tree.{Tree, done, node}
 use Rattle.network.specs.Search.{over}
 use Rattle.plan.specs.declared.Plan.{Plan}
-use Rattle.plan.specs.Answer.{unless, first, fine}
+use Rattle.plan.specs.Answer.{fine}
+use Rattle.plan.specs.Faults.{unless, first}
 use Rattle.plan.specs.Plan.{signed, listed}
 use Rattle.plan.proofs.Cases.{letter, constraint, plan, record-of, apart, k4, k5, k8}
 use Rattle.judge.specs.Judge.{headFine, takenBefore, letterFine, letterUnused, letterEntry, lettersFine}
@@ -21,8 +23,9 @@ use Rattle.game.specs.Position.{isLegal}
 use Rattle.checker.specs.Checker.{withSubtrees, nodeAndBelow, subtreeIn, treeFault, checkFault}
 use Rattle.checker.proofs.Cases.{k4-tree, k11-tree, four-ways}
 use Rattle.run.specs.declared.History.{History}
-use Rattle.run.specs.History.{historyOf, historyFine}
-use Rattle.run.specs.Run.{Told, instruct, complete, refuse, instructionAt, nodesBefore, toldFrom, unlessFault, showAnswer, reportAnswer}
+use Rattle.run.specs.History.{historyOf}
+use Rattle.run.specs.Run.{nodesBefore, toldFrom, unlessFault, showAnswer, reportAnswer, historyFine}
+use Rattle.run.specs.Told.{Told, instruct, complete, refuse, instructionAt}
 
 -- ---- What is computed here. To unfold a name of this section is to unfold all that its line names.
 

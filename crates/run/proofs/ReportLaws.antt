@@ -5,7 +5,8 @@ use mathlib.Core.Bool.{true}
 use Prim.Native.Nat.{ℕ, _^_, _≤_, _<_}
 use native.Mathlib.Omega.{arith}
 use lib.Pow.{pow-mono}
-use Rattle.network.specs.Mask.{count, rank}
+use Rattle.network.specs.Mask.{count}
+use Rattle.network.specs.Below.{rank}
 use Rattle.network.specs.Network.{Network}
 use Rattle.network.specs.Game.{Move, hears, Outcome, outcomes, outcomeAt}
 use Rattle.network.proofs.BelowLaws.{count-le}
@@ -17,7 +18,7 @@ use Rattle.network.proofs.GameLaws.{heard-condition}
 use Rattle.plan.specs.declared.Plan.{Plan}
 use Rattle.plan.specs.Plan.{networkOf}
 use Rattle.plan.specs.Letters.{heardBy}
-use Rattle.run.specs.Run.{mayReport}
+use Rattle.run.specs.Told.{mayReport}
 
 module _ (p : Plan) (few : p .letters ≤ 6) (m : Move) (o : ℕ) where
   abbrev net : Network

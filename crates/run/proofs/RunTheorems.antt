@@ -12,14 +12,15 @@ use Rattle.network.proofs.Booleans.{by-test, eqb-no}
 use Rattle.plan.specs.declared.Plan.{Plan}
 use Rattle.plan.specs.declared.Refusal.the-variants as refusal
 use Rattle.plan.specs.Refusal.{refusalNumber}
-use Rattle.plan.specs.Answer.{unless, first}
+use Rattle.plan.specs.Faults.{unless, first}
 use Rattle.plan.specs.Plan.{networkOf}
 use Rattle.plan.specs.WellFormed.{WellFormed}
 use Rattle.tree.specs.Trees.{Describes}
 use Rattle.checker.specs.Checker.{checkFault}
 use Rattle.run.specs.declared.History.{History}
-use Rattle.run.specs.History.{historyFine, historyFault, reportsIn, longer}
-use Rattle.run.specs.Run.{Told, instruct, complete, refuse, mayReport, instructionAt, toldFrom, unlessFault, showAnswer}
+use Rattle.run.specs.History.{longer}
+use Rattle.run.specs.Run.{toldFrom, unlessFault, showAnswer, historyFine, historyFault, reportsIn}
+use Rattle.run.specs.Told.{Told, instruct, complete, refuse, mayReport, instructionAt}
 use Rattle.run.specs.Run.{reportFault, reportAnswer}
 use Rattle.run.proofs.ReportLaws as report-laws
 use Rattle.run.proofs.ToldLaws.{told-of-described}

@@ -8,14 +8,16 @@ use Rattle.plan.specs.declared.Plan.{Plan}
 use Rattle.plan.specs.declared.Refusal.{Refusal}
 use Rattle.plan.specs.declared.Refusal.the-variants as refusal
 use Rattle.plan.specs.Refusal.{refusalNumber}
-use Rattle.plan.specs.Answer.{unless, first, Answer}
+use Rattle.plan.specs.Answer.{Answer}
+use Rattle.plan.specs.Faults.{unless, first}
 use Rattle.plan.specs.Plan.{networkOf}
 use Rattle.plan.proofs.RefusalLaws.{some-number}
 use Rattle.plan.proofs.AnswerLaws.{first-refused}
 use Rattle.checker.specs.Checker.{checkFault}
 use Rattle.run.specs.declared.History.{History}
-use Rattle.run.specs.History.{historyFine, reportsIn, longer}
-use Rattle.run.specs.Run.{instruct, complete, refuse, mayReport, toldFrom, unlessFault, showAnswer, reportAnswer}
+use Rattle.run.specs.History.{longer}
+use Rattle.run.specs.Run.{toldFrom, unlessFault, showAnswer, reportAnswer, historyFine, reportsIn}
+use Rattle.run.specs.Told.{instruct, complete, refuse, mayReport}
 
 module _ (p : Plan) (bs : List ℕ) (h : History) where
   -- ---- showing

@@ -21,8 +21,8 @@ use Rattle.plan.proofs.OutcomeLaws.{submasks-are-outcomes}
 use Rattle.plan.proofs.SliceLaws as slice
 use Rattle.plan.proofs.SliceLaws.{rest-is}
 use Rattle.tree.specs.declared.Node.{Node}
-use Rattle.tree.specs.Nodes.{nodeAt, fromNode}
-use Rattle.tree.specs.Trees.{moveOf}
+use Rattle.tree.specs.Nodes.{nodeAt}
+use Rattle.tree.specs.Parts.{fromNode, moveOf}
 use Rattle.game.specs.declared.Position.{Position}
 use Rattle.game.specs.Position.{stateOf, Proper, isLegal, startPosition, positionAfter}
 use Rattle.game.proofs.PositionLaws.{start-is, start-proper, inside-is, over-is-zero, after-long, after-proper, after-is}
@@ -32,7 +32,8 @@ use Rattle.checker.proofs.SubtreeLaws.{sound-node, step, within-bytes}
 use Rattle.checker.proofs.CodeLaws.{below}
 use Rattle.checker.proofs.FaultLaws.{described-found}
 use Rattle.checker.proofs.CheckerTheorems.{yes-exactly, checked-yes-exactly}
-use Rattle.run.specs.Run.{Told, refuse, mayReport, nodesFound, nodesBefore, toldHere, toldFrom}
+use Rattle.run.specs.Run.{nodesFound, nodesBefore, toldHere, toldFrom}
+use Rattle.run.specs.Told.{Told, refuse, mayReport}
 use Rattle.run.proofs.ReportLaws.{number-lt}
 use Rattle.run.proofs.WalkLaws.{Apart, apart, Here, is-legal, node-here, is-outcome, number, numbered-own, before-is}
 

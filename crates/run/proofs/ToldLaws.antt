@@ -8,10 +8,12 @@ use native.Mathlib.Omega.{arith}
 use lib.Dec.{eqb}
 use lib.ListN.{length, drop}
 use lib.Seq.{drop-at, length-take-le}
-use Rattle.network.specs.Mask.{bit, sumBelow, joinBelow}
+use Rattle.network.specs.Mask.{bit, joinBelow}
+use Rattle.network.specs.Below.{sumBelow}
 use Rattle.network.specs.Network.{Network}
 use Rattle.network.specs.Game.{State, start, Move, Legal, Outcome, outcomes, outcomeAt, after, Over}
-use Rattle.network.specs.Tree.{Tree, done, node, Sound, nodes, pointsLeft}
+use Rattle.network.specs.Tree.{Tree, done, node, Sound}
+use Rattle.network.specs.Sizes.{nodes, pointsLeft}
 use Rattle.network.proofs.Booleans.{by-test, clash, eqb-yes, eqb-no, eqb-is}
 use Rattle.network.proofs.BelowLaws.{count-le}
 use Rattle.network.proofs.MaskLaws.{bit-zero, no-bits}
@@ -19,13 +21,14 @@ use Rattle.network.proofs.JoinLaws.{join-lengths, join-at}
 use Rattle.network.proofs.GameLaws.{Inside, not-over, outcome-at-is, start-inside, after-inside, fewer-left}
 use Rattle.plan.specs.declared.Plan.{Plan}
 use Rattle.plan.specs.declared.Refusal.the-variants as refusal
-use Rattle.plan.specs.Answer.{first}
+use Rattle.plan.specs.Faults.{first}
 use Rattle.plan.specs.Plan.{networkOf}
 use Rattle.plan.specs.WellFormed.{WellFormed}
 use Rattle.plan.proofs.AnswerLaws.{unless-is, first-none}
 use Rattle.judge.specs.Judge.{planFault}
 use Rattle.judge.proofs.WellFormedLaws.{fine-exactly}
-use Rattle.tree.specs.Nodes.{nodeBytes, fromNode}
+use Rattle.tree.specs.Nodes.{nodeBytes}
+use Rattle.tree.specs.Parts.{fromNode}
 use Rattle.tree.specs.Trees.{nodeOf, treeBytes, Describes}
 use Rattle.tree.proofs.TreeLaws.{subtreesBytes, node-bytes-front, tree-length}
 use Rattle.checker.specs.declared.Checked.{Checked}
@@ -34,8 +37,8 @@ use Rattle.checker.specs.Checker.{withSubtrees, subtreeAt, treeFault, checkFaul
 use Rattle.checker.proofs.CompleteLaws.{ShapedFrom, allKept, subtrees-found, complete}
 use Rattle.checker.proofs.CheckerTheorems.{yes-exactly}
 use Rattle.run.specs.declared.History.{History}
-use Rattle.run.specs.History.{historyFine, historyFault, reportsIn}
-use Rattle.run.specs.Run.{Told, instruct, complete as told-done, refuse, mayReport, instructionAt, nodesFound, nodesBefore, toldFrom}
+use Rattle.run.specs.Run.{nodesFound, nodesBefore, toldFrom, historyFine, historyFault, reportsIn}
+use Rattle.run.specs.Told.{Told, instruct, complete as told-done, refuse, mayReport, instructionAt}
 use Rattle.run.specs.Run.{unlessFault, showAnswer}
 use Rattle.run.proofs.ReportLaws.{may-is, outcomeNumber, number-lt, number-is}
 use Rattle.run.proofs.HistoryLaws.{count-fine}

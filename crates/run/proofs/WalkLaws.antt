@@ -8,7 +8,8 @@ use native.Mathlib.Decide.{decLt}
 use native.Mathlib.Nat.{not-suc-le-zero}
 use native.Mathlib.Omega.{arith}
 use lib.ListN.{length, length-drop}
-use Rattle.network.specs.Mask.{bit, rank, submask}
+use Rattle.network.specs.Mask.{bit, submask}
+use Rattle.network.specs.Below.{rank}
 use Rattle.network.specs.Game.{hears, Legal, Outcome, outcomeAt, after}
 use Rattle.network.proofs.Booleans.{clash}
 use Rattle.network.proofs.MaskLaws.{bit-zero}
@@ -19,8 +20,8 @@ use Rattle.plan.specs.Letters.{heardBy}
 use Rattle.plan.specs.WellFormed.{WellFormed}
 use Rattle.plan.proofs.OutcomeLaws.{numbered-is-outcome}
 use Rattle.tree.specs.declared.Node.{Node}
-use Rattle.tree.specs.Nodes.{nodeAt, fromNode}
-use Rattle.tree.specs.Trees.{moveOf}
+use Rattle.tree.specs.Nodes.{nodeAt}
+use Rattle.tree.specs.Parts.{fromNode, moveOf}
 use Rattle.game.specs.declared.Position.{Position}
 use Rattle.game.specs.Position.{stateOf, Proper, isLegal}
 use Rattle.game.proofs.LegalLaws.{legal-exactly}
@@ -31,7 +32,8 @@ use Rattle.checker.specs.declared.Checked.the-variants as checked
 use Rattle.checker.specs.Checker.{withSubtrees, subtreeAt}
 use Rattle.checker.proofs.SubtreeLaws.{both}
 use Rattle.checker.proofs.CodeLaws.{below, AtNode, at-node, subtrees-none, subtrees-on, subtrees-stop}
-use Rattle.run.specs.Run.{mayReport, nodesFound, nodesBefore}
+use Rattle.run.specs.Run.{nodesFound, nodesBefore}
+use Rattle.run.specs.Told.{mayReport}
 use Rattle.run.proofs.ReportLaws.{may-is, outcomeNumber, number-lt, number-small, number-is}
 
 -- ---- the subtrees of the outcomes before it

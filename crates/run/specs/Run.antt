@@ -1,51 +1,41 @@
--- Definitions: what a crew is told at a history, and what reporting answers. A reader must believe `Told`, `mayReport`, `instructionAt` and
--- the answers at the end, and of `toldFrom`, which reads bytes, only what `told-is` of proofs/RunTheorems.antt says: it is `instructionAt`.
-use mathlib.Core.Bool.{Bool, cond}
+-- Definitions: what a crew is told at a history, read from a tree's bytes, and what showing and reporting answer. Computed: pinned by
+-- `told-is` of run/proofs/RunTheorems.antt.
+use mathlib.Core.Bool.{cond, Bool, _&&_, _||_}
 use mathlib.Core.List.{List, [], _∷_}
 use Prim.Native.Nat.{ℕ}
-use lib.Dec.{eqb}
-use Rattle.network.specs.Mask.{rank}
-use Rattle.network.specs.Game.{State, start, Move, hears, outcomeAt, after}
-use Rattle.network.specs.Tree.{Tree, done, node}
-use Rattle.masks.specs.Masks.{inside}
+use lib.Dec.{eqb, leb, ltb}
+use lib.ListN.{getD, take}
+use Rattle.network.specs.Mask.{allBelow}
+use Rattle.network.specs.Below.{rank}
+use Rattle.network.specs.Game.{State, start, hears, outcomeAt, after}
 use Rattle.plan.specs.declared.Plan.{Plan}
 use Rattle.plan.specs.declared.Refusal.the-variants as refusal
-use Rattle.plan.specs.Refusal.{refusalNumber, judgedNumber}
-use Rattle.plan.specs.Answer.{unless, first, Answer}
+use Rattle.plan.specs.Refusal.{refusalNumber}
+use Rattle.plan.specs.Answer.{Answer}
+use Rattle.plan.specs.Faults.{unless, first}
 use Rattle.plan.specs.Plan.{networkOf}
-use Rattle.plan.specs.Letters.{heardBy}
-use Rattle.tree.specs.Nodes.{nodeAt, fromNode}
-use Rattle.tree.specs.Trees.{moveOf}
+use Rattle.tree.specs.Nodes.{nodeAt}
+use Rattle.tree.specs.Parts.{fromNode, moveOf}
 use Rattle.checker.specs.declared.Checked.{Checked}
 use Rattle.checker.specs.declared.Checked.the-variants as checked
 use Rattle.checker.specs.Checker.{withSubtrees, subtreeAt, checkFault}
-use Rattle.run.specs.declared.Instruction.{Instruction}
 use Rattle.run.specs.declared.History.{History}
-use Rattle.run.specs.declared.Shown.{Shown}
-use Rattle.run.specs.declared.Shown.the-variants as shown
-use Rattle.run.specs.declared.Reported.{Reported}
-use Rattle.run.specs.History.{historyFault, reportsIn, longer}
+use Rattle.run.specs.History.{longer}
+use Rattle.run.specs.Told.{instruct, complete, refuse, mayReport, Told}
 
--- What a crew is told (document 01's term): an instruction, which is a move of the game; that it is done; or the number of a refusal.
-pub data Told : Type 0 where
-  instruct : Move → Told
-  complete : Told
-  refuse : ℕ → Told
+-- ---- Histories: a count 0 to 8, and zeros past it.
 
--- a report at the instruction m: a mask inside the conditions that its points disclose
-abbrev pub mayReport : Plan → Move → ℕ → Bool
-mayReport p m o = inside o (heardBy p (m .points))
+unfoldable pub historyFine : History → Bool
+historyFine h = leb (h .count) 8 && allBelow 8 (λ i. ltb i (h .count) || eqb (getD (h .masks) i 0) 0)
 
--- ---- By the tree. The instruction at a history is the node reached from the root by its masks, or done when the last node of a path has
--- been reported. At each mask in turn, 9 where the run was done before it, then 8 where it names what it may not.
+abbrev pub historyFault : History → ℕ
+historyFault h = unless (historyFine h) refusal.Mask
 
-unfoldable pub instructionAt : Plan → Tree → List ℕ → Told
-instructionAt p done [] = complete
-instructionAt p done (o ∷ os) = refuse (refusalNumber refusal.AfterDone)
-instructionAt p (node m next) [] = instruct m
-instructionAt p (node m next) (o ∷ os) = cond (mayReport p m o) (instructionAt p (next o) os) (refuse (refusalNumber refusal.Mask))
+-- the reports that it holds, in order
+abbrev pub reportsIn : History → List ℕ
+reportsIn h = take (h .count) (h .masks)
 
--- ---- By its bytes.
+-- ---- What is told, by a tree's bytes.
 
 -- the nodes that were found
 abbrev pub nodesFound : Checked → ℕ
@@ -84,15 +74,6 @@ showAnswer p bs h =
     let told = toldFrom p (start (networkOf p)) bs (reportsIn h) in
     unlessFault (first (checkFault p bs) (historyFault h)) told
 
--- number and values of each case of what `show` hands back
-abbrev pub instructed : Instruction → Move
-instructed v = record { slot = v .slot; points = v .points; choices = v .choices }
-
-abbrev pub shownTold : Shown → Told
-shownTold (shown.Instruct v) = instruct (instructed v)
-shownTold shown.Done = complete
-shownTold (shown.Refused r) = refuse (refusalNumber r)
-
 -- Reporting: the same refusals, and the new mask is judged like those inside the history: 9 where the run is done, then 8 where it names
 -- what it may not
 abbrev pub reportFault : Plan → Told → ℕ → ℕ
@@ -104,6 +85,3 @@ reportFault p (refuse n) o = n
 unfoldable pub reportAnswer : Plan → List ℕ → History → ℕ → Answer History
 reportAnswer p bs h o =
     let n = reportFault p (showAnswer p bs h) o in record { fault = n; value = cond (eqb n 0) (longer h o) h }
-
-abbrev pub reportedAnswer : Reported → Answer History
-reportedAnswer r = record { fault = judgedNumber (r .answer); value = r .history }

@@ -7,9 +7,10 @@ use plan::Refusal;
 use plan::letters;
 ghost use mathlib.Core.Path.{_≡_};
 ghost use Prim.Native.Nat.{_<_};
-ghost use Rattle.run.specs.History.{emptyHistory, historyFine, longer};
+ghost use Rattle.run.specs.History.{emptyHistory, longer};
 ghost use Rattle.plan.specs.Refusal.{refusalNumber};
-ghost use Rattle.run.specs.Run.{shownTold, showAnswer, reportedAnswer, reportAnswer};
+ghost use Rattle.run.specs.Run.{showAnswer, reportAnswer, historyFine};
+ghost use Rattle.run.specs.Told.{shownTold, reportedAnswer};
 
 // What a crew does next: these points in this slot, with these choices.
 pub struct Instruction {

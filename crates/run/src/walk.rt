@@ -15,11 +15,11 @@ ghost use Rattle.network.specs.Game.{start};
 ghost use Rattle.plan.specs.Plan.{networkOf};
 ghost use Rattle.plan.specs.WellFormed.{WellFormed};
 ghost use Rattle.tree.specs.Nodes.{nodeAt};
-ghost use Rattle.tree.specs.Trees.{moveOf};
+ghost use Rattle.tree.specs.Parts.{moveOf};
 ghost use Rattle.game.specs.Position.{stateOf, Proper, isLegal};
 ghost use Rattle.checker.specs.Checker.{checkFault};
-ghost use Rattle.run.specs.History.{reportsIn};
-ghost use Rattle.run.specs.Run.{mayReport, nodesBefore, shownTold, toldHere, toldFrom};
+ghost use Rattle.run.specs.Run.{nodesBefore, toldHere, toldFrom, reportsIn};
+ghost use Rattle.run.specs.Told.{mayReport, shownTold};
 
 // How many nodes stand before the child that this outcome leads to: the node at the front, and the subtrees of the outcomes before it.
 fn nodes_before(plan: Plan, nodes: &[u8], at: Position, mask: u8) -> usize

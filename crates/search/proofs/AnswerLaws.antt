@@ -10,10 +10,11 @@ use native.Mathlib.Decide.{decLt}
 use lib.Dec.{leb, eqb}
 use lib.ListN.{length, take, drop, replicate, length-append, length-drop, length-replicate}
 use lib.Seq.{drop-append-seam, take-at, drop-at}
-use Rattle.network.specs.Network.{Network, IsNetwork}
+use Rattle.network.specs.Network.{Network}
+use Rattle.network.specs.IsNetwork.{IsNetwork}
 use Rattle.network.specs.Strategy.{DynamicallyConsistent}
 use Rattle.network.specs.Game.{start}
-use Rattle.network.specs.Tree.{nodes}
+use Rattle.network.specs.Sizes.{nodes}
 use Rattle.network.specs.Search.{firstTree, hopeless}
 use Rattle.network.proofs.Booleans.{by-test, leb-yes, leb-no, eqb-is, eqb-no, differs, false-exactly}
 use Rattle.network.proofs.TreeStrategy.{wins→shaped}
@@ -22,7 +23,8 @@ use Rattle.plan.specs.declared.Plan.{Plan}
 use Rattle.plan.specs.declared.Refusal.{Refusal}
 use Rattle.plan.specs.declared.Refusal.the-variants as refusal
 use Rattle.plan.specs.Refusal.{refusalNumber}
-use Rattle.plan.specs.Answer.{unless, first, Answer}
+use Rattle.plan.specs.Answer.{Answer}
+use Rattle.plan.specs.Faults.{unless, first}
 use Rattle.plan.specs.Plan.{networkOf}
 use Rattle.plan.specs.WellFormed.{WellFormed}
 use Rattle.plan.proofs.AnswerLaws.{first-refused, answered-fine}
@@ -30,14 +32,15 @@ use Rattle.plan.proofs.PlanTheorems.{is-network}
 use Rattle.plan.proofs.RefusalLaws.{no-refusal, refusal-one-number}
 use Rattle.judge.specs.Judge.{planFault}
 use Rattle.judge.proofs.WellFormedLaws.{fine-exactly, two-to-four}
-use Rattle.tree.specs.Nodes.{mostBytes}
+use Rattle.tree.specs.Nodes.{mostBytes, overwritten}
 use Rattle.tree.specs.Trees.{treeBytes, Describes}
 use Rattle.tree.proofs.NodeLaws.{IsLegal, legal-is}
 use Rattle.tree.proofs.TreeLaws.{tree-length}
 use Rattle.checker.proofs.FaultLaws.{described-legal}
 use Rattle.search.specs.declared.Searched.{Searched}
 use Rattle.search.specs.declared.Searched.the-variants as searched
-use Rattle.search.specs.Search.{searchedAnswer, searchFault, searchAnswer, overwritten, searchLeaves}
+use Rattle.search.specs.Search.{searchFault, searchAnswer, searchLeaves}
+use Rattle.search.specs.Searched.{searchedAnswer}
 
 -- ---- a buffer overwritten
 

@@ -5,14 +5,17 @@ use mathlib.Core.List.{List, [], _∷_, _++_}
 use mathlib.Core.Bool.{true}
 use Prim.Native.Nat.{ℕ}
 use lib.ListN.{replicate}
-use Rattle.network.specs.Mask.{bit, mask, count, allBelow, anyBelow, firstBelow, sumBelow, joinBelow, submask}
+use Rattle.network.specs.Mask.{bit, mask, count, allBelow, firstBelow, joinBelow, submask}
+use Rattle.network.specs.Below.{anyBelow, sumBelow}
 use Rattle.network.specs.Network.{holds, projected, atMost, feasible, keeps}
 use Rattle.network.specs.Game.{start, after}
-use Rattle.network.specs.Tree.{preorder, nodes}
+use Rattle.network.specs.Tree.{preorder}
+use Rattle.network.specs.Sizes.{nodes}
 use Rattle.network.specs.Search.{over, winsBy, winsWith, winsIn, winnable, firstMove, firstTreeFrom, hopeless}
 use Rattle.plan.specs.declared.Plan.{Plan}
 use Rattle.plan.specs.declared.Constraint.{Constraint}
-use Rattle.plan.specs.Answer.{unless, first, Answer, fine, answered}
+use Rattle.plan.specs.Answer.{Answer, fine}
+use Rattle.plan.specs.Faults.{unless, first, answered}
 use Rattle.plan.specs.Plan.{signed, listed, networkOf}
 use Rattle.plan.proofs.Cases.{letter, constraint, record-of, plan, one-point, k4, k5, k7, k8}
 use Rattle.judge.specs.Judge.{headFine, takenBefore, letterFine, letterUnused, letterEntry, lettersFine}

@@ -8,7 +8,8 @@ use lib.ListN.{length, take, drop, replicate, length-append, length-drop}
 use lib.Seq.{length-take-le, drop-at, take-append-le}
 use Rattle.network.specs.Network.{Network}
 use Rattle.network.specs.Game.{start}
-use Rattle.network.specs.Tree.{Tree, nodes}
+use Rattle.network.specs.Tree.{Tree}
+use Rattle.network.specs.Sizes.{nodes}
 use Rattle.network.specs.Search.{firstTree}
 use Rattle.network.proofs.SizeLaws.{start-room}
 use Rattle.network.proofs.Theorems.{consistent-exactly}
@@ -16,7 +17,8 @@ use Rattle.plan.specs.declared.Plan.{Plan}
 use Rattle.plan.specs.declared.Refusal.{Refusal}
 use Rattle.plan.specs.declared.Refusal.the-variants as refusal
 use Rattle.plan.specs.Refusal.{refusalNumber}
-use Rattle.plan.specs.Answer.{Answer, fine, refused, answered}
+use Rattle.plan.specs.Answer.{Answer, fine, refused}
+use Rattle.plan.specs.Faults.{answered}
 use Rattle.plan.specs.Plan.{networkOf}
 use Rattle.plan.specs.WellFormed.{WellFormed}
 use Rattle.plan.proofs.AnswerLaws.{answered-fine, answered-refused}
@@ -24,11 +26,12 @@ use Rattle.plan.proofs.PlanTheorems.{is-network}
 use Rattle.plan.proofs.RefusalLaws.{no-refusal}
 use Rattle.judge.specs.Judge.{planFault}
 use Rattle.judge.proofs.WellFormedLaws.{fine-exactly, two-to-four}
-use Rattle.tree.specs.Nodes.{mostNodes, mostBytes}
+use Rattle.tree.specs.Nodes.{mostBytes, overwritten}
+use Rattle.tree.specs.Parts.{mostNodes}
 use Rattle.tree.specs.Trees.{treeBytes}
 use Rattle.tree.proofs.TreeLaws.{tree-length}
 use Rattle.turns.specs.declared.Turn.the-variants as turn
-use Rattle.search.specs.Search.{searchFault, searchAnswer, overwritten, searchLeaves}
+use Rattle.search.specs.Search.{searchFault, searchAnswer, searchLeaves}
 use Rattle.turns.specs.Turns.{most, Leaves, Finds, firstTreeAt, AgentFinds}
 use Rattle.turns.proofs.BufferLaws.{same-length, front-is}
 use Rattle.turns.proofs.FirstTreeLaws.{start-tree}

@@ -10,8 +10,10 @@ use lib.Seq.{take-at}
 use Rattle.network.specs.Network.{Network}
 use Rattle.network.specs.Strategy.{DynamicallyConsistent}
 use Rattle.network.specs.Game.{start}
-use Rattle.network.specs.Tree.{Tree, nodes}
-use Rattle.network.specs.FirstMoves.{FirstMoves, SameTree}
+use Rattle.network.specs.Tree.{Tree}
+use Rattle.network.specs.Sizes.{nodes}
+use Rattle.network.specs.FirstMoves.{FirstMoves}
+use Rattle.network.specs.Walks.{SameTree}
 use Rattle.network.specs.Search.{firstTree}
 use Rattle.network.proofs.Booleans.{eqb-no}
 use Rattle.network.proofs.Theorems.{tree-dynamic, tree-viable-exactly, first-tree-first, first-tree-wins, first-tree-only}
@@ -19,19 +21,20 @@ use Rattle.plan.specs.declared.Plan.{Plan}
 use Rattle.plan.specs.declared.Refusal.{Refusal}
 use Rattle.plan.specs.declared.Refusal.the-variants as refusal
 use Rattle.plan.specs.Refusal.{refusalNumber}
-use Rattle.plan.specs.Answer.{answered}
+use Rattle.plan.specs.Faults.{answered}
 use Rattle.plan.specs.Plan.{networkOf}
 use Rattle.plan.specs.WellFormed.{WellFormed}
 use Rattle.plan.proofs.AnswerLaws.{answered-fault, answered-zero}
 use Rattle.judge.specs.Judge.{planFault}
-use Rattle.tree.specs.Nodes.{nodeCount, mostBytes}
+use Rattle.tree.specs.Nodes.{nodeCount, mostBytes, overwritten}
 use Rattle.tree.specs.Trees.{treeBytes}
 use Rattle.tree.proofs.TreeLaws.{same-bytes}
 use Rattle.checker.specs.Checker.{checkFault}
 use Rattle.checker.proofs.CheckerTheorems.{yes-exactly}
 use Rattle.search.specs.declared.Searched.{Searched}
 use Rattle.search.specs.declared.Searched.the-variants as searched
-use Rattle.search.specs.Search.{searchedAnswer, searchFault, searchAnswer, overwritten, searchLeaves}
+use Rattle.search.specs.Search.{searchFault, searchAnswer, searchLeaves}
+use Rattle.search.specs.Searched.{searchedAnswer}
 use Rattle.search.proofs.AnswerLaws.{overwritten-past, overwritten-tail, overwritten-length, leaves-of, said-refused, said-nodes}
 use Rattle.search.proofs.AnswerLaws.{short-fault, plan-fault, hopeless-fault, no-fault, by-fault, answered-so, hopeless-so}
 

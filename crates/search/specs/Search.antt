@@ -1,27 +1,21 @@
 -- Definitions: what the search answers, and what it leaves in the lent buffer. A reader must believe this file. (`hopeless` and `firstTree`
 -- are tied to Definitions 6 to 9 and to document 01's words by the network's theorems; proofs/SearchTheorems.antt says it of this call.)
 use mathlib.Core.Bool.{not, cond}
-use mathlib.Core.List.{List, [], _++_}
-use Prim.Native.Nat.{ℕ, _-_}
+use mathlib.Core.List.{List, []}
+use Prim.Native.Nat.{ℕ}
 use lib.Dec.{leb, eqb}
-use lib.ListN.{length, drop, replicate}
-use Rattle.network.specs.Tree.{nodes}
+use lib.ListN.{length}
+use Rattle.network.specs.Sizes.{nodes}
 use Rattle.network.specs.Search.{firstTree, hopeless}
 use Rattle.plan.specs.declared.Plan.{Plan}
 use Rattle.plan.specs.declared.Refusal.the-variants as refusal
 use Rattle.plan.specs.Refusal.{refusalNumber}
-use Rattle.plan.specs.Answer.{unless, first, Answer, fine, refused, answered}
+use Rattle.plan.specs.Answer.{Answer}
+use Rattle.plan.specs.Faults.{unless, first, answered}
 use Rattle.plan.specs.Plan.{networkOf}
 use Rattle.judge.specs.Judge.{planFault}
-use Rattle.tree.specs.Nodes.{mostBytes}
+use Rattle.tree.specs.Nodes.{mostBytes, overwritten}
 use Rattle.tree.specs.Trees.{treeBytes}
-use Rattle.search.specs.declared.Searched.{Searched}
-use Rattle.search.specs.declared.Searched.the-variants as searched
-
--- fault and value of an answer: the number of nodes
-abbrev pub searchedAnswer : Searched → Answer ℕ
-searchedAnswer (searched.Nodes n) = fine n
-searchedAnswer (searched.Refused r) = refused 0 r
 
 -- 10, then 2, 3, 4, then 11
 unfoldable pub searchFault : Plan → List ℕ → ℕ
@@ -32,10 +26,6 @@ searchFault p xs =
 -- else the number of nodes of the tree of first moves
 abbrev pub searchAnswer : Plan → List ℕ → Answer ℕ
 searchAnswer p xs = answered 0 (searchFault p xs) (nodes (networkOf p) (firstTree (networkOf p)))
-
--- a buffer, before it xs, with these bytes at its front, then zeros up to byte 573; bytes past 573 stay
-abbrev pub overwritten : List ℕ → List ℕ → List ℕ
-overwritten bytes xs = bytes ++ (replicate (mostBytes - length bytes) 0 ++ drop mostBytes xs)
 
 -- what the call leaves in the buffer: the tree; under 11 nothing but the zeros; under every other refusal all stays
 unfoldable pub searchLeaves : Plan → List ℕ → List ℕ

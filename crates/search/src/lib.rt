@@ -10,7 +10,8 @@ ghost use Rattle.network.specs.Game.{start};
 ghost use Rattle.plan.specs.Plan.{networkOf};
 ghost use Rattle.plan.specs.WellFormed.{WellFormed};
 ghost use Rattle.turns.specs.Turns.{AgentFinds};
-ghost use Rattle.search.specs.Search.{searchedAnswer, searchAnswer, searchLeaves};
+ghost use Rattle.search.specs.Search.{searchAnswer, searchLeaves};
+ghost use Rattle.search.specs.Searched.{searchedAnswer};
 
 // What the search answers: so many nodes, or a refusal.
 pub enum Searched {

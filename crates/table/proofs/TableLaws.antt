@@ -17,7 +17,7 @@ use Rattle.network.specs.Raise.{turns}
 use Rattle.network.proofs.Booleans.{clash}
 use Rattle.network.proofs.MaskLaws.{bit-zero, bit-above}
 use Rattle.network.proofs.RaiseLaws.{raised-below}
-use Rattle.masks.specs.Masks.{nextInside}
+use Rattle.masks.specs.Next.{nextInside}
 use Rattle.masks.proofs.NextLaws.{Last, Next, next-inside-cases}
 use Rattle.constraints.specs.Rows.{rowsSay}
 use Rattle.table.specs.declared.View.{View}

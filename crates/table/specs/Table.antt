@@ -7,8 +7,10 @@ use mathlib.Core.List.{List}
 use Prim.Native.Nat.{ℕ, _+_, _-_, _*_, _%_, _^_, _≤_, _<_}
 use lib.Bits.{bitAnd, bitOr, bitXor}
 use lib.ListN.{getD}
-use Rattle.network.specs.Mask.{bit, anyBelow}
-use Rattle.network.specs.Network.{Network, Schedule, keeps, IsNetwork}
+use Rattle.network.specs.Mask.{bit}
+use Rattle.network.specs.Below.{anyBelow}
+use Rattle.network.specs.Network.{Network, Schedule, keeps}
+use Rattle.network.specs.IsNetwork.{IsNetwork}
 use Rattle.constraints.specs.Rows.{rowsSay}
 use Rattle.table.specs.declared.View.{View}
 

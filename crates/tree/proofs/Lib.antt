@@ -2,3 +2,4 @@
 pub mod NodeLaws
 pub mod CodeLaws
 pub mod TreeLaws
+pub mod Cases

@@ -4,11 +4,13 @@ use mathlib.Core.List.{List, [], _∷_, _++_}
 use Prim.Native.Nat.{ℕ, zero, suc, _*_}
 use native.Mathlib.Omega.{arith}
 use lib.ListN.{length}
-use Rattle.network.specs.Mask.{sumBelow, joinBelow}
+use Rattle.network.specs.Mask.{joinBelow}
+use Rattle.network.specs.Below.{sumBelow}
 use Rattle.network.specs.Network.{Network}
 use Rattle.network.specs.Game.{State, Move, outcomes, outcomeAt, after}
-use Rattle.network.specs.Tree.{Tree, done, node, Sound, preorder, nodes}
-use Rattle.network.specs.FirstMoves.{SameTree}
+use Rattle.network.specs.Tree.{Tree, done, node, Sound, preorder}
+use Rattle.network.specs.Sizes.{nodes}
+use Rattle.network.specs.Walks.{SameTree}
 use Rattle.network.proofs.JoinLaws.{join-cong, join-lengths, join-parse}
 use Rattle.network.proofs.GameLaws.{not-over, outcome-at-is, outcome-numbered}
 use Rattle.tree.specs.Nodes.{nodeBytes}

@@ -1,15 +1,13 @@
--- Definitions: a tree in memory, three bytes to a node. A reader must believe this file; nothing else knows where a node's bytes stand.
+-- Definitions: a tree in memory, three bytes to a node, and a lent buffer that holds one. A reader must believe this file; nothing else but
+-- Parts.antt knows where a node's bytes stand.
 use mathlib.Core.Bool.{Bool, _&&_}
-use mathlib.Core.List.{List, [], _∷_}
-use Prim.Native.Nat.{ℕ, _+_, _*_, _/_, _%_}
+use mathlib.Core.List.{List, [], _∷_, _++_}
+use Prim.Native.Nat.{ℕ, _+_, _*_, _/_, _%_, _-_}
 use lib.Dec.{leb, eqb}
-use lib.ListN.{length, getD, take, drop}
+use lib.ListN.{length, getD, take, drop, replicate}
 use Rattle.tree.specs.declared.Node.{Node}
 
--- the most nodes that a tree has, and the bytes that they take
-abbrev pub mostNodes : ℕ
-mostNodes = 191
-
+-- the bytes of the most nodes that a tree has, 191
 abbrev pub mostBytes : ℕ
 mostBytes = 573
 
@@ -29,12 +27,10 @@ nodeBytes v = v .slot ∷ v .points ∷ v .choices ∷ []
 abbrev pub nodeAt : List ℕ → ℕ → Node
 nodeAt bs k = record { slot = getD bs (3 * k) 0; points = getD bs (3 * k + 1) 0; choices = getD bs (3 * k + 2) 0 }
 
--- whether a whole node stands at the front; the bytes of the first k nodes, and those from node k on
-abbrev pub hasNode : List ℕ → Bool
-hasNode bs = leb 3 (length bs)
-
+-- the bytes of the first k nodes
 abbrev pub firstNodes : List ℕ → ℕ → List ℕ
 firstNodes bs k = take (3 * k) bs
 
-abbrev pub fromNode : List ℕ → ℕ → List ℕ
-fromNode bs k = drop (3 * k) bs
+-- a buffer, before it xs, with these bytes at its front, then zeros up to byte 573; bytes past 573 stay
+abbrev pub overwritten : List ℕ → List ℕ → List ℕ
+overwritten bytes xs = bytes ++ (replicate (mostBytes - length bytes) 0 ++ drop mostBytes xs)

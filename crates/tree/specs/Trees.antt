@@ -1,4 +1,4 @@
--- Definitions: the bytes of a strategy tree, and which bytes are well formed. A reader must believe this file.
+-- Definitions: the bytes of a strategy tree, and which bytes describe one. A reader must believe this file.
 use mathlib.Core.Path.{_≡_}
 use mathlib.Core.List.{List, [], _∷_, _++_}
 use Prim.Native.Nat.{ℕ}
@@ -8,10 +8,7 @@ use Rattle.network.specs.Tree.{Tree, Shaped, preorder}
 use Rattle.tree.specs.declared.Node.{Node}
 use Rattle.tree.specs.Nodes.{nodeBytes}
 
--- a node is a move of the game
-abbrev pub moveOf : Node → Move
-moveOf v = record { slot = v .slot; points = v .points; choices = v .choices }
-
+-- a move of the game is a node
 abbrev pub nodeOf : Move → Node
 nodeOf m = record { slot = m .slot; points = m .points; choices = m .choices }
 
@@ -28,8 +25,3 @@ treeBytes net t = movesBytes (preorder net t)
 pub record Describes (net : Network) (bs : List ℕ) (t : Tree) : Type 0 where
   pub shaped : Shaped net t
   pub all-bytes : bs ≡ treeBytes net t
-
--- Well-formed bytes: they describe some tree. (There is one only: `one-tree` of the checker's theorems.)
-pub record WellFormedBytes (net : Network) (bs : List ℕ) : Type 0 where
-  pub tree : Tree
-  pub described : Describes net bs tree

@@ -2,7 +2,7 @@
 use plan::bytes;
 ghost use mathlib.Core.Path.{_≡_};
 ghost use Prim.Native.Nat.{_*_};
-ghost use Rattle.plan.specs.Answer.{putAt};
+ghost use Rattle.plan.specs.Faults.{putAt};
 ghost use Rattle.tree.specs.Nodes.{legalLength, nodeCount, nodeBytes, nodeAt};
 
 // What is done in a slot: the points performed and the choices made, as masks.

@@ -6,13 +6,16 @@ use Prim.Native.Nat.{ℕ}
 use Prim.Native.String.{String}
 use lib.ListN.{replicate}
 use Rattle.network.specs.Mask.{allBelow, joinBelow}
-use Rattle.plan.specs.Answer.{unless, first, fine, answered, andThen, filled}
-use Rattle.frame.specs.Hex.{digitOf, pairOf, hexDigit}
-use Rattle.frame.specs.Frame.{byteAt, whole}
+use Rattle.plan.specs.Answer.{fine}
+use Rattle.plan.specs.Faults.{unless, first, answered, andThen, filled}
+use Rattle.frame.specs.Hex.{hexDigit}
+use Rattle.frame.specs.ReadFrame.{digitOf, pairOf, byteAt, whole}
 use Rattle.frame.specs.Texts.{frameFault, framesFrom, atEnd}
 use Rattle.frame.specs.Characters.{characters}
 use Rattle.tree.specs.Nodes.{legalLength}
-use Rattle.tree_text.specs.TreeText.{treeText, writeTree, readTreeHead, readNode, readNodes, bytesIn, readTree}
+use Rattle.tree_text.specs.TreeText.{treeText}
+use Rattle.tree_text.specs.WriteTree.{writeTree}
+use Rattle.tree_text.specs.ReadTree.{readTreeHead, readNode, readNodes, bytesIn, readTree}
 
 -- ---- the tree of K4, document 01's listing: nodes (0, 1, 0), (2, 2, 0), (1, 2, 0)
 

@@ -15,12 +15,14 @@ use Rattle.plan.specs.declared.Refusal.the-variants as refusal
 use Rattle.plan.specs.declared.Judged.{Judged}
 use Rattle.plan.specs.declared.Judged.the-variants as judged
 use Rattle.plan.specs.Refusal.{judgedNumber}
-use Rattle.plan.specs.Answer.{Answer, unless, first, fine, refused, answered, filled, putAt}
+use Rattle.plan.specs.Answer.{Answer, fine, refused}
+use Rattle.plan.specs.Faults.{unless, first, answered, filled, putAt}
 use Rattle.plan.proofs.RefusalLaws.{some-number}
 use Rattle.frame.specs.declared.Written.{Written}
 use Rattle.frame.specs.declared.Written.the-variants as written
-use Rattle.frame.specs.Frame.{frameLength}
-use Rattle.frame.specs.Texts.{framesFrom, atEnd, writtenAnswer}
+use Rattle.frame.specs.ReadFrame.{frameLength}
+use Rattle.frame.specs.Texts.{framesFrom, atEnd}
+use Rattle.frame.specs.Written.{writtenAnswer}
 use Rattle.plan.proofs.AnswerLaws.{answered-fine, answered-refused}
 use Rattle.frame.proofs.RunLaws.{filled-is}
 use Rattle.plan.proofs.SliceLaws.{rest-is}
@@ -30,7 +32,10 @@ use Rattle.tree.specs.declared.Node.{Node}
 use Rattle.tree.specs.Nodes.{nodeCount, mostBytes, legalLength, nodeBytes, nodeAt}
 use Rattle.tree_text.specs.declared.TreeRead.{TreeRead}
 use Rattle.tree_text.specs.declared.TreeRead.the-variants as tree-read
-use Rattle.tree_text.specs.TreeText.{treeHeadText, nodeText, treeText, writeTree, treeReadAnswer, readNode, readNodes, nodeIn, bytesIn, readTree, readTreeLeaves, writeTreeLeaves}
+use Rattle.tree_text.specs.TreeText.{treeHeadText, nodeText, treeText}
+use Rattle.tree_text.specs.WriteTree.{writeTree, writeTreeLeaves}
+use Rattle.tree_text.specs.TreeRead.{treeReadAnswer}
+use Rattle.tree_text.specs.ReadTree.{readNode, readNodes, nodeIn, bytesIn, readTree, readTreeLeaves}
 use Rattle.tree_text.proofs.TreeTextLaws.{node-reader, Reads, reads, node-fine, one-text, bytes-length, text-length, reads-whole}
 
 -- ---- answers

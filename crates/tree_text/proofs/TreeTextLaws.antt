@@ -15,16 +15,21 @@ use Rattle.network.proofs.Booleans.{by-test, and-left, and-right, and-make, leb
 use Rattle.network.proofs.JoinLaws.{join-cong, join-length, drop-to-piece}
 use Rattle.plan.specs.declared.Refusal.the-variants as refusal
 use Rattle.plan.specs.Refusal.{refusalNumber}
-use Rattle.plan.specs.Answer.{unless, first, Answer, fine, refused, answered}
+use Rattle.plan.specs.Answer.{Answer, fine, refused}
+use Rattle.plan.specs.Faults.{unless, first, answered}
 use Rattle.plan.specs.Plan.{listed}
-use Rattle.frame.specs.Frame.{Bytes, frameLength, valueAt, whole}
+use Rattle.frame.specs.Frame.{Bytes}
+use Rattle.frame.specs.ReadFrame.{frameLength, valueAt, whole}
 use Rattle.frame.specs.Texts.{frameFault, atEnd}
 use Rattle.frame.proofs.FrameLaws.{bytes, bytes-append, value-back, whole-back, frame-behind, whole-said}
 use Rattle.plan.proofs.AnswerLaws.{unless-of}
 use Rattle.frame.proofs.RunLaws.{frame-fault-of, then-each, run-each, frame-read, frame-read-is, at-end, at-end-is, then-goes, then-fine, run-back, run-invariant}
-use Rattle.tree.specs.Nodes.{nodeCount, mostNodes, mostBytes, legalLength, nodeBytes, nodeAt}
+use Rattle.tree.specs.Nodes.{nodeCount, mostBytes, legalLength, nodeBytes, nodeAt}
+use Rattle.tree.specs.Parts.{mostNodes}
 use Rattle.tree.proofs.NodeLaws.{nodes-length, node-of-bytes, bytes-of-nodes, legal-is, legal-make}
-use Rattle.tree_text.specs.TreeText.{treeHeadText, nodeText, treeText, writeTree, readTree, readTreeHead, readNode, readBehind, readNodes, nodeIn, bytesIn}
+use Rattle.tree_text.specs.TreeText.{treeHeadText, nodeText, treeText}
+use Rattle.tree_text.specs.WriteTree.{writeTree}
+use Rattle.tree_text.specs.ReadTree.{readTree, readTreeHead, readNode, readBehind, readNodes, nodeIn, bytesIn}
 
 -- where node k of a tree text stands
 abbrev place : ℕ → ℕ

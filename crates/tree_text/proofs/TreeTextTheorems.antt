@@ -10,12 +10,16 @@ use native.Mathlib.Decide.{decLt}
 use lib.ListN.{length, drop, take, replicate}
 use lib.Seq.{take-at}
 use Rattle.plan.specs.declared.Refusal.the-variants as refusal
-use Rattle.plan.specs.Answer.{Answer, fine, refused, filled}
-use Rattle.frame.specs.Frame.{Bytes, valueAt}
+use Rattle.plan.specs.Answer.{Answer, fine, refused}
+use Rattle.plan.specs.Faults.{filled}
+use Rattle.frame.specs.Frame.{Bytes}
+use Rattle.frame.specs.ReadFrame.{valueAt}
 use Rattle.frame.proofs.RunLaws.{filled-is, filled-front}
 use Rattle.tree.specs.Nodes.{nodeCount, mostBytes, legalLength}
 use Rattle.tree.proofs.NodeLaws.{legal-is}
-use Rattle.tree_text.specs.TreeText.{treeText, writeTree, readNodes, bytesIn, readTree, readTreeLeaves, writeTreeLeaves}
+use Rattle.tree_text.specs.TreeText.{treeText}
+use Rattle.tree_text.specs.WriteTree.{writeTree, writeTreeLeaves}
+use Rattle.tree_text.specs.ReadTree.{readNodes, bytesIn, readTree, readTreeLeaves}
 use Rattle.tree_text.proofs.TreeTextLaws.{reads, one-text, bytes-length, bytes-in-bytes, reads-legal, counts-back, bytes-back, writes, reads-whole, text-length, nodes-refused, reads-with-room, reads-without-room, room-of}
 
 -- A text reads as a tree of these bytes exactly where it is their text and they have a legal length. (`Bytes`: every entry is below 256.)

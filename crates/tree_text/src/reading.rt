@@ -11,10 +11,11 @@ ghost use lib.ListN.{length};
 ghost use lib.Seq.{sets};
 ghost use Rattle.plan.specs.declared.Refusal.the-variants as refusal;
 ghost use Rattle.plan.specs.Refusal.{judgedNumber};
-ghost use Rattle.plan.specs.Answer.{answered};
-ghost use Rattle.frame.specs.Frame.{frameLength};
+ghost use Rattle.plan.specs.Faults.{answered};
+ghost use Rattle.frame.specs.ReadFrame.{frameLength};
 ghost use Rattle.frame.specs.Texts.{atEnd};
-ghost use Rattle.tree_text.specs.TreeText.{treeReadAnswer, readTreeHead, readNode, readBehind, readNodes, nodeIn, bytesIn, readTree, readTreeLeaves};
+ghost use Rattle.tree_text.specs.TreeRead.{treeReadAnswer};
+ghost use Rattle.tree_text.specs.ReadTree.{readTreeHead, readNode, readBehind, readNodes, nodeIn, bytesIn, readTree, readTreeLeaves};
 
 // n nodes beside fine.
 fn answered_nodes(answer: Judged, n: u8) -> TreeRead

@@ -8,9 +8,10 @@ ghost use Prim.Native.Nat.{_+_, _*_, _≤_};
 ghost use lib.ListN.{length};
 ghost use lib.Seq.{sets};
 ghost use Rattle.network.specs.Mask.{joinBelow};
-ghost use Rattle.frame.specs.Texts.{writtenAnswer};
+ghost use Rattle.frame.specs.Written.{writtenAnswer};
 ghost use Rattle.tree.specs.Nodes.{nodeAt};
-ghost use Rattle.tree_text.specs.TreeText.{treeHeadText, nodeText, writeTree, writeTreeLeaves};
+ghost use Rattle.tree_text.specs.TreeText.{treeHeadText, nodeText};
+ghost use Rattle.tree_text.specs.WriteTree.{writeTree, writeTreeLeaves};
 
 fn put_head(out: &mut [u8], n: u8)
     requires { ⌜ 5 ≤ length (now out) ⌝ }

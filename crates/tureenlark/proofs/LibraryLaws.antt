@@ -9,11 +9,11 @@ use borrow.Author.Tests.{le-leb, lt-leb}
 use lib.Dec.{eqb}
 use lib.ListN.{length}
 use lib.Seq.{sets, sets-eq}
-use Rattle.plan.specs.Answer.{unless, first, filled, putAt}
-use Rattle.run.specs.Run.{Told, instruct, complete, refuse}
+use Rattle.plan.specs.Faults.{unless, first, filled, putAt}
+use Rattle.run.specs.Told.{Told, instruct, complete, refuse}
 use Rattle.verdict.specs.declared.Found.{Found}
 use Rattle.verdict.specs.declared.Found.the-variants as found
-use Rattle.verdict.specs.Verdict.{saying}
+use Rattle.verdict.specs.Answers.{saying}
 use Rattle.answers.specs.Numbers.{faultNumber, numbered}
 use Rattle.answers.specs.Steps.{toldBytes}
 use Rattle.tureenlark.specs.Library.{shortFault, unlessShort}

@@ -12,16 +12,19 @@ use Rattle.network.proofs.Booleans.{by-test, eqb-is, eqb-no, leb-is, differs}
 use Rattle.plan.specs.declared.Refusal.the-variants as refusal
 use Rattle.plan.specs.declared.Plan.{Plan}
 use Rattle.plan.specs.Plan.{listed}
-use Rattle.plan.specs.Answer.{unless, first, answered, filled}
+use Rattle.plan.specs.Faults.{unless, first, answered, filled}
 use Rattle.plan.proofs.AnswerLaws.{unless-is, first-none}
 use Rattle.frame.specs.Texts.{roomFault}
 use Rattle.judge.specs.Judge.{planFault}
 use Rattle.judge.proofs.WellFormedLaws.{fine-exactly}
 use Rattle.tree.specs.Nodes.{mostBytes, legalLength}
 use Rattle.tree.proofs.NodeLaws.{legal-is}
-use Rattle.plan_text.specs.PlanText.{planText, writePlan}
+use Rattle.plan_text.specs.PlanText.{planText}
+use Rattle.plan_text.specs.WritePlan.{writePlan}
 use Rattle.plan_text.specs.ReadPlan.{readPlan}
-use Rattle.tree_text.specs.TreeText.{treeText, writeTree, readNodes, bytesIn, readTree}
+use Rattle.tree_text.specs.TreeText.{treeText}
+use Rattle.tree_text.specs.WriteTree.{writeTree}
+use Rattle.tree_text.specs.ReadTree.{readNodes, bytesIn, readTree}
 use Rattle.tree_text.proofs.TreeTextTheorems.{at-most-1724, whatever-reads}
 use Rattle.plan_text.proofs.PlanTextTheorems.{read-exactly, refused-zero, at-most-1025}
 use Rattle.search.specs.Search.{searchFault, searchAnswer}

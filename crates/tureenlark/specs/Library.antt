@@ -7,17 +7,21 @@ use lib.Dec.{leb, eqb}
 use lib.ListN.{length, getD}
 use Rattle.network.specs.Mask.{digit, joinBelow}
 use Rattle.plan.specs.declared.Refusal.the-variants as refusal
-use Rattle.plan.specs.Answer.{unless, first, Answer, filled}
+use Rattle.plan.specs.Answer.{Answer}
+use Rattle.plan.specs.Faults.{unless, first, filled}
 use Rattle.judge.specs.Judge.{planFault}
 use Rattle.frame.specs.Texts.{roomFault}
-use Rattle.plan_text.specs.PlanText.{writePlan, writePlanLeaves}
+use Rattle.plan_text.specs.WritePlan.{writePlan, writePlanLeaves}
 use Rattle.plan_text.specs.ReadPlan.{readPlan}
-use Rattle.tree_text.specs.TreeText.{readTree, writeTree}
+use Rattle.tree_text.specs.ReadTree.{readTree}
+use Rattle.tree_text.specs.WriteTree.{writeTree}
 use Rattle.checker.specs.Checker.{checkFault}
 use Rattle.search.specs.Search.{searchAnswer, searchLeaves}
 use Rattle.run.specs.declared.History.{History}
-use Rattle.run.specs.Run.{Told, showAnswer, reportAnswer}
-use Rattle.following.specs.Calls.{theRun, Progress, begun, afterCalls}
+use Rattle.run.specs.Run.{showAnswer, reportAnswer}
+use Rattle.run.specs.Told.{Told}
+use Rattle.following.specs.Calls.{Progress, begun, afterCalls}
+use Rattle.following.specs.ThisRun.{theRun}
 use Rattle.following.specs.Following.{callsIn, zeroStep, followedRecord}
 use Rattle.verdict.specs.Verdict.{leastSchedule, screened}
 use Rattle.answer_text.specs.AnswerText.{answerText}

@@ -8,7 +8,7 @@ use lib.ListN.{length, take, drop, length-append, length-drop, take-append-drop}
 use lib.Seq.{length-take-le, take-at, drop-drop, drop-append-le, drop-length}
 use borrow.Rule.Slice.PartMut.{putMid, post-is}
 use Rattle.network.proofs.Booleans.{leb-yes}
-use Rattle.plan.specs.Answer.{putAt}
+use Rattle.plan.specs.Faults.{putAt}
 use Rattle.plan.proofs.SliceLaws.{rest, rest-is}
 use Rattle.tree.specs.declared.Node.{Node}
 use Rattle.tree.specs.Nodes.{nodeBytes}

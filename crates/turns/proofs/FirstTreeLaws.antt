@@ -6,10 +6,13 @@ use mathlib.Core.Bool.{true, false}
 use mathlib.Core.List.{[]}
 use Prim.Native.Nat.{ℕ, zero, suc, _≤_}
 use native.Mathlib.Omega.{arith}
-use Rattle.network.specs.Network.{Network, IsNetwork}
+use Rattle.network.specs.Network.{Network}
+use Rattle.network.specs.IsNetwork.{IsNetwork}
 use Rattle.network.specs.Game.{State, start, Move, after, Over, kept, Kept}
-use Rattle.network.specs.Tree.{Tree, done, node, Sound, nodes, pointsLeft}
-use Rattle.network.specs.FirstMoves.{CanBeWon, Winning, Before, FirstMoves, SameTree}
+use Rattle.network.specs.Tree.{Tree, done, node, Sound}
+use Rattle.network.specs.Sizes.{nodes, pointsLeft}
+use Rattle.network.specs.FirstMoves.{CanBeWon, Winning, Before, FirstMoves}
+use Rattle.network.specs.Walks.{SameTree}
 use Rattle.network.specs.Search.{over, winnable, firstTreeFrom, firstTree}
 use Rattle.network.proofs.BelowLaws.{count-full}
 use Rattle.network.proofs.Booleans.{clash}

@@ -11,7 +11,7 @@ use Rattle.network.specs.Network.{keeps, slotsIn}
 use Rattle.network.specs.Game.{State, Legal, outcomes, outcomeAt, after}
 use Rattle.network.specs.FirstMoves.{Winning}
 use Rattle.plan.specs.declared.Plan.{Plan}
-use Rattle.plan.specs.Answer.{putAt}
+use Rattle.plan.specs.Faults.{putAt}
 use Rattle.plan.specs.Plan.{networkOf}
 use Rattle.plan.specs.Letters.{heardBy}
 use Rattle.plan.specs.WellFormed.{WellFormed}
@@ -20,7 +20,7 @@ use Rattle.plan.proofs.OutcomeLaws.{submasks-are-outcomes}
 use Rattle.plan.proofs.PlanTheorems.{is-network}
 use Rattle.tree.specs.declared.Node.{Node}
 use Rattle.tree.specs.Nodes.{nodeBytes}
-use Rattle.tree.specs.Trees.{moveOf}
+use Rattle.tree.specs.Parts.{moveOf}
 use Rattle.moves.specs.declared.Step.{Step}
 use Rattle.moves.specs.declared.Step.the-variants as step
 use Rattle.moves.specs.Moves.{firstStep, nextStep}

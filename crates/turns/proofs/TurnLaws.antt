@@ -11,10 +11,12 @@ use native.Mathlib.Nat.{not-suc-le-zero, mul-le-mul-left}
 use native.Mathlib.Numerals.{add-one}
 use lib.ListN.{length, take, drop}
 use lib.Seq.{length-take-le}
-use Rattle.network.specs.Mask.{sumBelow, joinBelow}
-use Rattle.network.specs.Network.{Network, IsNetwork}
+use Rattle.network.specs.Mask.{joinBelow}
+use Rattle.network.specs.Below.{sumBelow}
+use Rattle.network.specs.Network.{Network}
+use Rattle.network.specs.IsNetwork.{IsNetwork}
 use Rattle.network.specs.Game.{State, Move, Legal, outcomes, outcomeAt, after, kept}
-use Rattle.network.specs.Tree.{nodes}
+use Rattle.network.specs.Sizes.{nodes}
 use Rattle.network.specs.FirstMoves.{CanBeWon, Winning, Before}
 use Rattle.network.specs.Search.{over}
 use Rattle.network.proofs.BelowLaws.{sum-le}
@@ -24,7 +26,8 @@ use Rattle.network.proofs.FirstLaws.{before-cases}
 use Rattle.network.proofs.SizeLaws.{room-positive, room-same, room-step}
 use Rattle.tree.specs.declared.Node.{Node}
 use Rattle.tree.specs.Nodes.{nodeBytes}
-use Rattle.tree.specs.Trees.{moveOf, treeBytes}
+use Rattle.tree.specs.Trees.{treeBytes}
+use Rattle.tree.specs.Parts.{moveOf}
 use Rattle.tree.proofs.TreeLaws.{tree-length, node-bytes, same-bytes, same-nodes}
 use Rattle.moves.specs.declared.Step.{Step}
 use Rattle.moves.specs.declared.Step.the-variants as step

@@ -4,10 +4,12 @@ use mathlib.Core.Path.{_≡_}
 use mathlib.Core.List.{List, [], _++_}
 use Prim.Native.Nat.{ℕ, _+_, _-_, _*_}
 use lib.ListN.{length, drop}
-use Rattle.network.specs.Mask.{sumBelow, joinBelow}
+use Rattle.network.specs.Mask.{joinBelow}
+use Rattle.network.specs.Below.{sumBelow}
 use Rattle.network.specs.Network.{Network}
 use Rattle.network.specs.Game.{State, Move, outcomes, outcomeAt, after}
-use Rattle.network.specs.Tree.{Tree, nodes, pointsLeft, room}
+use Rattle.network.specs.Tree.{Tree}
+use Rattle.network.specs.Sizes.{nodes, pointsLeft, room}
 use Rattle.network.specs.FirstMoves.{CanBeWon, Winning}
 use Rattle.network.specs.Search.{firstTreeFrom}
 use Rattle.tree.specs.Trees.{treeBytes}

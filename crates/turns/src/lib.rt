@@ -10,7 +10,7 @@ ghost use lib.ListN.{length};
 ghost use Rattle.network.specs.Game.{Legal};
 ghost use Rattle.plan.specs.Plan.{networkOf};
 ghost use Rattle.plan.specs.WellFormed.{WellFormed};
-ghost use Rattle.tree.specs.Trees.{moveOf};
+ghost use Rattle.tree.specs.Parts.{moveOf};
 ghost use Rattle.game.specs.Position.{stateOf, Proper};
 ghost use Rattle.turns.specs.Turns.{most, mostBehind, AgentFinds, WorldFinds};
 

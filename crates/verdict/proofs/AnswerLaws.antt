@@ -16,7 +16,8 @@ use Rattle.plan.specs.declared.Plan.{Plan}
 use Rattle.plan.specs.declared.Refusal.{Refusal}
 use Rattle.plan.specs.declared.Refusal.the-variants as refusal
 use Rattle.plan.specs.Refusal.{refusalNumber}
-use Rattle.plan.specs.Answer.{unless, first, Answer, fine, answered}
+use Rattle.plan.specs.Answer.{Answer, fine}
+use Rattle.plan.specs.Faults.{unless, first, answered}
 use Rattle.plan.specs.Plan.{networkOf}
 use Rattle.judge.specs.Judge.{planFault}
 use Rattle.plan.specs.WellFormed.{WellFormed}
@@ -30,7 +31,8 @@ use Rattle.verdict.specs.declared.Found.the-variants as found
 use Rattle.verdict.specs.declared.Verdict.{Verdict}
 use Rattle.verdict.specs.declared.screen.Screened.{Screened}
 use Rattle.verdict.specs.declared.screen.Screened.the-variants as screen
-use Rattle.verdict.specs.Verdict.{Fixed, none, verdictOf, verdictFault, leastSchedule, saying, verdictAnswer, passes, screened, screenAnswer}
+use Rattle.verdict.specs.Verdict.{verdictOf, verdictFault, leastSchedule, passes, screened}
+use Rattle.verdict.specs.Answers.{Fixed, none, saying, verdictAnswer, screenAnswer}
 use Rattle.verdict.proofs.LeastLaws.{EightSlots, none-eight, verdict-eight, Decides, decides-yes, verdict-decides}
 
 -- ---- what a call says where it answers a

@@ -5,16 +5,19 @@ use mathlib.Core.List.{List, [], _∷_, _++_}
 use mathlib.Core.Bool.{Bool, true, false}
 use Prim.Native.Nat.{ℕ, _-_}
 use lib.ListN.{length, replicate}
-use Rattle.network.specs.Mask.{bit, allBelow, anyBelow}
+use Rattle.network.specs.Mask.{bit, allBelow}
+use Rattle.network.specs.Below.{anyBelow}
 use Rattle.network.specs.Network.{holds}
 use Rattle.network.specs.Raise.{leastFrom, asked, turn, turns}
 use Rattle.plan.specs.declared.Plan.{Plan}
 use Rattle.plan.specs.declared.Constraint.{Constraint}
-use Rattle.plan.specs.Answer.{unless, first, Answer, fine, answered}
+use Rattle.plan.specs.Answer.{Answer, fine}
+use Rattle.plan.specs.Faults.{unless, first, answered}
 use Rattle.plan.specs.Plan.{signed, listed}
 use Rattle.judge.specs.Judge.{headFine, takenBefore, letterFine, letterUnused, letterEntry, lettersFine, boundFine, constraintFine, constraintUnused, constraintEntry, constraintsFine, planFault}
 use Rattle.plan.proofs.Cases.{letter, constraint, plan, one-point, k4, k5, k6, k7, k8}
-use Rattle.verdict.specs.Verdict.{climbed, leastSlots, withinHorizon, Fixed, none, fixed, verdictOf, verdictFault, leastSchedule, passes, screened}
+use Rattle.verdict.specs.Verdict.{climbed, leastSlots, withinHorizon, fixed, verdictOf, verdictFault, leastSchedule, passes, screened}
+use Rattle.verdict.specs.Answers.{Fixed, none}
 
 -- the least schedule: the slots of the first points; the other entries are zero
 abbrev schedule : List ℕ → Answer Fixed

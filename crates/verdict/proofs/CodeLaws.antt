@@ -13,7 +13,8 @@ use Rattle.network.specs.Raise.{turns, raised}
 use Rattle.network.proofs.Booleans.{by-test}
 use Rattle.network.proofs.RaiseLaws.{raised-length, raised-capped}
 use Rattle.constraints.proofs.RaisingLaws.{alike, same-is, same-not}
-use Rattle.verdict.specs.Verdict.{climbed, leastSlots, withinHorizon, Fixed, none, fixed, verdictOf}
+use Rattle.verdict.specs.Verdict.{climbed, leastSlots, withinHorizon, fixed, verdictOf}
+use Rattle.verdict.specs.Answers.{Fixed, none}
 use Rattle.verdict.proofs.TotalLaws.{total, total-capped}
 use Rattle.verdict.proofs.LeastLaws.{climbed-next, rises, rests-at, zeros-at}
 

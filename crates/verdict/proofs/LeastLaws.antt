@@ -11,14 +11,16 @@ use native.Mathlib.Decide.{decLt}
 use lib.Dec.{leb}
 use lib.ListN.{length, replicate}
 use lib.Seq.{ext-getD}
-use Rattle.network.specs.Network.{Network, Scenario, Schedule, slotsIn, keeps, IsNetwork}
+use Rattle.network.specs.Network.{Network, Scenario, Schedule, slotsIn, keeps}
+use Rattle.network.specs.IsNetwork.{IsNetwork}
 use Rattle.network.specs.Fixed.{Least, Schedulable}
 use Rattle.network.specs.Raise.{raised}
 use Rattle.network.proofs.Booleans.{by-test, clash, leb-yes, leb-is}
 use Rattle.network.proofs.BelowLaws.{all-at, all-make}
 use Rattle.network.proofs.RaiseLaws.{raised-length, raised-above, raised-capped, raised-unused, raised-below, raised-still}
 use Rattle.plan.proofs.SliceLaws.{all-same}
-use Rattle.verdict.specs.Verdict.{climbed, leastSlots, withinHorizon, Fixed, none, fixed, verdictOf}
+use Rattle.verdict.specs.Verdict.{climbed, leastSlots, withinHorizon, fixed, verdictOf}
+use Rattle.verdict.specs.Answers.{Fixed, none}
 use Rattle.verdict.proofs.TotalLaws.{total, total-same, total-top}
 
 module _ (cap : ℕ) (net : Network) (s : Scenario) where

@@ -6,7 +6,7 @@ use native.Mathlib.Omega.{arith}
 use native.Mathlib.Nat.{le-refl, le-trans}
 use lib.ListN.{length}
 use lib.Seq.{ext-getD}
-use Rattle.network.specs.Mask.{sumBelow}
+use Rattle.network.specs.Below.{sumBelow}
 use Rattle.network.specs.Network.{slotsIn}
 use Rattle.network.proofs.BelowLaws.{sum-le, sum-same}
 

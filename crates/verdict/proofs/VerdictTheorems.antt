@@ -26,7 +26,8 @@ use Rattle.verdict.specs.declared.Verdict.{Verdict}
 use Rattle.verdict.specs.declared.screen.Screened.{Screened}
 use Rattle.verdict.specs.declared.screen.Screened.the-variants as screen
 use Rattle.verdict.specs.Says.{Says}
-use Rattle.verdict.specs.Verdict.{verdictOf, leastSchedule, saying, verdictAnswer, screened, screenAnswer}
+use Rattle.verdict.specs.Verdict.{verdictOf, leastSchedule, screened}
+use Rattle.verdict.specs.Answers.{saying, verdictAnswer, screenAnswer}
 use Rattle.verdict.proofs.LeastLaws.{same-slots, EightSlots, verdict-eight, Decides, decides-yes}
 use Rattle.verdict.proofs.AnswerLaws.{said-fault, said-value, said-refused, said-long, said-zeros, said-passed, said-failed, said-refused-screen, decides, fine-answer, mask-fault, plan-fault, eight-answer, fine-screen, screen-plan-fault, passes-exactly}
 

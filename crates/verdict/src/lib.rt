@@ -15,7 +15,8 @@ ghost use Rattle.network.specs.Network.{Network, slotsIn};
 ghost use Rattle.plan.specs.Answer.{fine};
 ghost use Rattle.plan.specs.Plan.{networkOf};
 ghost use Rattle.constraints.specs.Rows.{rowsSay};
-ghost use Rattle.verdict.specs.Verdict.{leastSlots, saying, verdictAnswer, verdictOf, leastSchedule};
+ghost use Rattle.verdict.specs.Verdict.{leastSlots, verdictOf, leastSchedule};
+ghost use Rattle.verdict.specs.Answers.{saying, verdictAnswer};
 
 // The least schedule, document 01's "none", or why the call is refused.
 pub enum Found {

@@ -8,7 +8,8 @@ ghost use Prim.Native.Nat.{_≤_};
 ghost use Rattle.network.specs.Mask.{bit};
 ghost use Rattle.network.specs.Network.{Network};
 ghost use Rattle.constraints.specs.Rows.{rowsSay};
-ghost use Rattle.verdict.specs.Verdict.{verdictOf, screenAnswer, passes, screened};
+ghost use Rattle.verdict.specs.Verdict.{verdictOf, passes, screened};
+ghost use Rattle.verdict.specs.Answers.{screenAnswer};
 
 // Whether a plan passes the screen, or why the call is refused.
 pub enum Screened {

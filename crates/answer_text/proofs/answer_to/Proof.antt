@@ -5,8 +5,10 @@ use Prim.Native.Nat.{ℕ, _≤_}
 use native.Mathlib.Omega.{arith}
 use lib.ListN.{length, take}
 use lib.Seq.{length-take-le}
-use Rattle.plan_text.specs.ReadPlan.{planReadAnswer, readPlan}
-use Rattle.answer_text.specs.AnswerText.{planIn, holding}
+use Rattle.plan_text.specs.ReadPlan.{readPlan}
+use Rattle.plan_text.specs.PlanRead.{planReadAnswer}
+use Rattle.answer_text.specs.AnswerText.{planIn}
+use Rattle.answer_text.specs.Holding.{holding}
 use Rattle.answer_text.proofs.CodeLaws.{all-judged, text-refused, text-read}
 use borrow.Author.Needs.{needs}
 use Rattle.answer_text.proofs.answer_to.Statement.{statement}

@@ -1,7 +1,9 @@
 -- `plan_answer`: what the search says and leaves is printed. Only the checker need believe this file.
 use mathlib.Core.Path.{_≡_, sym, ap, _∙_}
-use Rattle.search.specs.Search.{searchedAnswer, searchAnswer, searchLeaves}
-use Rattle.answer_text.specs.AnswerText.{lent, holding}
+use Rattle.search.specs.Search.{searchAnswer, searchLeaves}
+use Rattle.search.specs.Searched.{searchedAnswer}
+use Rattle.answer_text.specs.AnswerText.{lent}
+use Rattle.answer_text.specs.Holding.{holding}
 use Rattle.answer_text.proofs.CodeLaws.{nodes-fit, nodes-long, nodes-legal, tree-printed, search-refused}
 use borrow.Author.Needs.{needs}
 use Rattle.answer_text.proofs.plan_answer.Statement.{statement}

@@ -1,6 +1,6 @@
 -- `tree_answer`: the text stands at the front of blank bytes, and is never refused. Only the checker need believe this file.
 use mathlib.Core.Path.{sym, ap, _∙_}
-use Rattle.frame.specs.Texts.{writtenAnswer}
+use Rattle.frame.specs.Written.{writtenAnswer}
 use Rattle.answer_text.proofs.CodeLaws.{tree-held, never-refused}
 use borrow.Author.Needs.{needs}
 use Rattle.answer_text.proofs.tree_answer.Statement.{statement}

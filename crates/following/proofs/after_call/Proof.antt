@@ -6,7 +6,7 @@ use borrow.Author.Needs.{needs}
 use lib.ListN.{length}
 use Rattle.plan.specs.Refusal.{judgedNumber}
 use Rattle.plan.proofs.RefusalLaws.{no-refusal}
-use Rattle.run.specs.Run.{shownTold, reportedAnswer}
+use Rattle.run.specs.Told.{shownTold, reportedAnswer}
 use Rattle.run.proofs.ToldLaws.{room-for-one}
 use Rattle.following.proofs.FollowLaws.{no-step-refused, no-step-done, no-step-told, one-step, shown-leaves}
 use Rattle.following.proofs.FollowLaws.{AtReport, as-before, step-more}

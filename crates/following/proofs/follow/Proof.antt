@@ -4,7 +4,8 @@ use native.Mathlib.Omega.{arith}
 use borrow.Author.Needs.{needs}
 use lib.ListN.{length}
 use Rattle.run.specs.declared.History.{History}
-use Rattle.following.specs.Calls.{theRun, begun, afterCalls}
+use Rattle.following.specs.Calls.{begun, afterCalls}
+use Rattle.following.specs.ThisRun.{theRun}
 use Rattle.following.specs.Following.{callsIn, followedRecord}
 use Rattle.following.proofs.FollowLaws.{Stands, history-begun, stand-begins, fewer-bytes, steps-fit, stand-ends, stand-on}
 use Rattle.following.proofs.follow.Statement.{statement}

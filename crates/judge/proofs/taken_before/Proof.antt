@@ -5,7 +5,7 @@ use Prim.Native.Nat.{_≤_, _-_}
 use native.Mathlib.Omega.{arith}
 use borrow.Author.Needs.{needs}
 use borrow.Author.Tests.{eq-eqb, ne-eqb}
-use Rattle.network.specs.Mask.{anyBelow}
+use Rattle.network.specs.Below.{anyBelow}
 use Rattle.network.proofs.BelowLaws.{any-make, any-next}
 use Rattle.judge.specs.Judge.{takenBefore}
 use Rattle.judge.proofs.taken_before.Statement.{statement}

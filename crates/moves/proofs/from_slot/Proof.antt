@@ -3,7 +3,7 @@ use mathlib.Core.Path.{_≡_, sym, ap, _∙_}
 use Prim.Native.Nat.{ℕ, suc, _-_, _≤_}
 use native.Mathlib.Omega.{arith}
 use borrow.Author.Needs.{needs}
-use Rattle.masks.specs.Masks.{nextInside}
+use Rattle.masks.specs.Next.{nextInside}
 use Rattle.moves.specs.declared.Step.the-variants as step
 use Rattle.moves.specs.Moves.{readyAt}
 use Rattle.moves.proofs.StepLaws.{Idle, idle-start, idle-more, none-ready, first-ready}

@@ -2,8 +2,8 @@
 use mathlib.Core.Path.{_≡_, sym, ap, _∙_}
 use Prim.Native.Nat.{ℕ, _+_}
 use borrow.Author.Needs.{needs}
-use Rattle.masks.specs.Masks.{nextInside}
-use Rattle.plan.specs.Letters.{settledBy}
+use Rattle.masks.specs.Next.{nextInside}
+use Rattle.plan.specs.Settled.{settledBy}
 use Rattle.moves.specs.declared.Step.the-variants as step
 use Rattle.moves.specs.Moves.{readyAt, fromSlot}
 use Rattle.moves.proofs.StepLaws.{choicesBehind, pointsBehind, more-choices, other-points, later-slot}

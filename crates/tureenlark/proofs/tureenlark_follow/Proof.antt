@@ -5,7 +5,7 @@ use native.Mathlib.Omega.{arith}
 use Prim.Native.Nat.{_≤_}
 use lib.ListN.{length}
 use lib.Seq.{sets}
-use Rattle.plan.specs.Answer.{putAt}
+use Rattle.plan.specs.Faults.{putAt}
 use Rattle.run.specs.declared.History.{History}
 use Rattle.following.specs.Following.{followedRecord}
 use Rattle.records.specs.Records.{historyBytes}

@@ -6,8 +6,10 @@ use Prim.Native.Nat.{_≤_}
 use lib.ListN.{length}
 use Rattle.network.specs.Mask.{digit}
 use Rattle.plan.specs.declared.Plan.{Plan}
-use Rattle.plan.specs.Answer.{Answer, putAt}
-use Rattle.verdict.specs.Verdict.{Fixed, leastSchedule, verdictAnswer}
+use Rattle.plan.specs.Answer.{Answer}
+use Rattle.plan.specs.Faults.{putAt}
+use Rattle.verdict.specs.Verdict.{leastSchedule}
+use Rattle.verdict.specs.Answers.{Fixed, verdictAnswer}
 use Rattle.records.specs.Records.{planIn}
 use Rattle.answers.specs.Numbers.{fixedNumber}
 use Rattle.tureenlark.specs.Library.{planShort, shortFault, scheduleShort}

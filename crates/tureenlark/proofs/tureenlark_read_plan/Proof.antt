@@ -6,7 +6,8 @@ use Rattle.answers.specs.Numbers.{numbered}
 use lib.ListN.{length}
 use Prim.Native.Nat.{_≤_}
 use Rattle.plan.specs.declared.Plan.{Plan}
-use Rattle.plan.specs.Answer.{Answer, putAt}
+use Rattle.plan.specs.Answer.{Answer}
+use Rattle.plan.specs.Faults.{putAt}
 use Rattle.plan_text.specs.ReadPlan.{readPlan}
 use Rattle.records.specs.Records.{planBytes}
 use Rattle.records.proofs.RecordsTheorems.{plan-bytes}

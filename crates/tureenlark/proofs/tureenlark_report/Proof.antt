@@ -5,13 +5,14 @@ use native.Mathlib.Omega.{arith}
 use Rattle.answers.specs.Numbers.{numbered}
 use Prim.Native.Nat.{_≤_}
 use lib.ListN.{length}
-use Rattle.plan.specs.Answer.{Answer, putAt}
+use Rattle.plan.specs.Answer.{Answer}
+use Rattle.plan.specs.Faults.{putAt}
 use Rattle.run.specs.declared.History.{History}
 use Rattle.records.specs.Records.{historyBytes}
 use Rattle.tureenlark.specs.Library.{planShort, historyShort, reportShort, reportAt}
 use Rattle.tureenlark.proofs.LibraryLaws.{short, long, first-short, then-short, number-short, number-long, filled-short, put-long}
 use borrow.Author.Needs.{needs}
-use Rattle.run.specs.Run.{reportedAnswer}
+use Rattle.run.specs.Told.{reportedAnswer}
 use Rattle.tureenlark.proofs.tureenlark_report.Statement.{statement}
 use Rattle.tureenlark.proofs.tureenlark_report.Tie as tie
 

@@ -2,8 +2,8 @@
 use denote.Ref.{now}
 use mathlib.Core.Path.{_≡_, _∙_, ap}
 use native.Mathlib.Omega.{arith}
-use Rattle.plan.specs.Answer.{putAt}
-use Rattle.run.specs.Run.{Told, shownTold}
+use Rattle.plan.specs.Faults.{putAt}
+use Rattle.run.specs.Told.{Told, shownTold}
 use Rattle.answers.specs.Numbers.{toldNumber}
 use Rattle.answers.specs.Steps.{toldBytes}
 use Rattle.tureenlark.specs.Library.{planShort, historyShort, shortFault, showShort, toldAt}

@@ -4,7 +4,7 @@ use mathlib.Core.Path.{_∙_, ap}
 use Rattle.plan.specs.declared.Plan.{Plan}
 use Rattle.records.specs.Records.{planIn}
 use Rattle.answers.specs.Numbers.{answerNumber}
-use Rattle.plan_text.specs.PlanText.{writePlan, writePlanLeaves}
+use Rattle.plan_text.specs.WritePlan.{writePlan, writePlanLeaves}
 use Rattle.tureenlark.specs.Library.{planShort}
 use Rattle.tureenlark.proofs.LibraryLaws.{short, long, number-short, number-long, left-short, left-long}
 use borrow.Author.Needs.{needs}

@@ -12,7 +12,7 @@ use Rattle.network.specs.Mask.{bit, count}
 use Rattle.plan.specs.Plan.{networkOf}
 use Rattle.plan.specs.Letters.{heardBy}
 use Rattle.plan.proofs.SliceLaws.{rest}
-use Rattle.tree.specs.Trees.{moveOf}
+use Rattle.tree.specs.Parts.{moveOf}
 use Rattle.moves.specs.declared.Step.{Step}
 use Rattle.moves.specs.declared.Step.the-variants as step
 use Rattle.moves.proofs.OrderLaws.{movesAhead, ahead-falls}

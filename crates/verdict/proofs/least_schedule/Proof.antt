@@ -9,7 +9,7 @@ use Rattle.judge.specs.Judge.{planFault}
 use Rattle.judge.proofs.WellFormedLaws.{fine-exactly}
 use Rattle.network.proofs.Booleans.{not-true, not-false}
 use Rattle.verdict.specs.declared.Found.the-variants as found
-use Rattle.verdict.specs.Verdict.{saying, verdictAnswer}
+use Rattle.verdict.specs.Answers.{saying, verdictAnswer}
 use Rattle.verdict.proofs.AnswerLaws.{refused-plan, refused-mask, decided}
 use Rattle.verdict.proofs.least_schedule.Statement.{statement}
 use Rattle.verdict.proofs.least_schedule.Tie as tie

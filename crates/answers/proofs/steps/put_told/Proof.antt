@@ -1,9 +1,9 @@
 -- An instruction is stored; where there is none nothing is. Only the checker need believe this file.
 use denote.Ref.{now}
 use mathlib.Core.Path.{sym, ap, _∙_}
-use Rattle.plan.specs.Answer.{putAt}
+use Rattle.plan.specs.Faults.{putAt}
 use Rattle.run.specs.declared.Shown.{Shown}
-use Rattle.run.specs.Run.{shownTold}
+use Rattle.run.specs.Told.{shownTold}
 use Rattle.answers.specs.Steps.{toldBytes}
 use Rattle.answers.proofs.StepLaws.{nothing-put}
 use borrow.Author.Needs.{needs}

@@ -2,7 +2,7 @@
 use native.Mathlib.Omega.{arith}
 use borrow.Author.Tests.{leb-true}
 use Rattle.network.proofs.Booleans.{and-left}
-use Rattle.frame.specs.Hex.{digitOf}
+use Rattle.frame.specs.ReadFrame.{digitOf}
 use Rattle.frame.proofs.hex.digit.Statement.{statement}
 use Rattle.frame.proofs.hex.digit.Tie as tie
 

@@ -1,6 +1,6 @@
 -- By cases of the test. Only the checker need believe this file.
 use borrow.Author.Needs.{needs}
-use Rattle.frame.specs.Hex.{pairOf}
+use Rattle.frame.specs.ReadFrame.{pairOf}
 use Rattle.frame.proofs.hex.pair.Statement.{statement}
 use Rattle.frame.proofs.hex.pair.Tie as tie
 

@@ -1,6 +1,6 @@
 -- What is called says it. Only the checker need believe this file.
 use borrow.Author.Needs.{needs}
-use Rattle.frame.specs.Frame.{byteAt}
+use Rattle.frame.specs.ReadFrame.{byteAt}
 use Rattle.frame.proofs.reading.byte_at.Statement.{statement}
 use Rattle.frame.proofs.reading.byte_at.Tie as tie
 

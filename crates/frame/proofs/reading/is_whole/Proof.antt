@@ -9,7 +9,7 @@ use borrow.Author.Tests.{lt-ltb, eq-eqb, ne-eqb}
 use lib.Dec.{ltb, eqb}
 use Rattle.network.specs.Mask.{allBelow}
 use Rattle.network.proofs.BelowLaws.{all-start, all-next}
-use Rattle.frame.specs.Frame.{byteAt}
+use Rattle.frame.specs.ReadFrame.{byteAt}
 use Rattle.frame.proofs.CodeLaws.{other-kind, no-byte, up-to-feed}
 use Rattle.frame.proofs.reading.is_whole.Statement.{statement}
 use Rattle.frame.proofs.reading.is_whole.Tie as tie

@@ -1,7 +1,7 @@
 -- By cases of the test. Only the checker need believe this file.
 use borrow.Author.Needs.{needs}
 use borrow.Author.Tests.{eq-eqb, ne-eqb}
-use Rattle.plan.specs.Answer.{unless}
+use Rattle.plan.specs.Faults.{unless}
 use Rattle.frame.specs.Texts.{atEnd}
 use Rattle.plan_text.proofs.reading.read_end.Statement.{statement}
 use Rattle.plan_text.proofs.reading.read_end.Tie as tie

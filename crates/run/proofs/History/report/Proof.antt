@@ -3,7 +3,8 @@ use mathlib.Core.Path.{_≡_, refl, sym, ap, _∙_}
 use borrow.Author.Needs.{needs}
 use lib.ListN.{length}
 use Rattle.network.proofs.Booleans.{denied, granted}
-use Rattle.run.specs.Run.{instruct, mayReport, instructed, shownTold, showAnswer}
+use Rattle.run.specs.Run.{showAnswer}
+use Rattle.run.specs.Told.{instruct, mayReport, instructed, shownTold}
 use Rattle.run.proofs.ToldLaws.{room-for-one}
 use Rattle.run.proofs.ShownLaws.{report-refused, report-after-done, report-outside, report-inside}
 use Rattle.run.proofs.History.report.Statement.{statement}

@@ -5,19 +5,19 @@ use Prim.Native.Nat.{ℕ, _+_, _-_, _*_, _≤_}
 use native.Mathlib.Omega.{arith}
 use borrow.Author.Needs.{needs}
 use lib.ListN.{length}
-use Rattle.network.specs.Mask.{bit, rank, submask}
+use Rattle.network.specs.Mask.{bit, submask}
+use Rattle.network.specs.Below.{rank}
 use Rattle.network.specs.Game.{hears}
 use Rattle.plan.specs.Plan.{networkOf}
 use Rattle.plan.specs.Letters.{heardBy}
 use Rattle.plan.proofs.SliceLaws.{rest-is}
 use Rattle.tree.specs.declared.Node.{Node}
-use Rattle.tree.specs.Nodes.{fromNode}
-use Rattle.tree.specs.Trees.{moveOf}
+use Rattle.tree.specs.Parts.{fromNode, moveOf}
 use Rattle.game.specs.Position.{stateOf, isLegal, positionAfter}
 use Rattle.game.proofs.NextLaws.{next}
 use Rattle.checker.specs.declared.Checked.the-variants as checked
 use Rattle.checker.proofs.CodeLaws.{below}
-use Rattle.run.specs.Run.{mayReport}
+use Rattle.run.specs.Told.{mayReport}
 use Rattle.run.proofs.WalkLaws.{Passed, Here, node-here, pass-none, pass-less, pass-small, pass-fits}
 use Rattle.run.proofs.WalkLaws.{pass-more, pass-stop, pass-end}
 use Rattle.run.proofs.walk.nodes_before.Statement.{statement}

@@ -8,8 +8,9 @@ use lib.ListN.{length, getD, take, drop}
 use Rattle.network.specs.Game.{start}
 use Rattle.network.proofs.Booleans.{denied, granted}
 use Rattle.plan.specs.Plan.{networkOf}
-use Rattle.tree.specs.Trees.{moveOf}
-use Rattle.run.specs.Run.{Told, mayReport, toldFrom}
+use Rattle.tree.specs.Parts.{moveOf}
+use Rattle.run.specs.Run.{toldFrom}
+use Rattle.run.specs.Told.{Told, mayReport}
 use Rattle.run.proofs.WalkLaws.{front-legal, front-may}
 use Rattle.run.proofs.ToldFromLaws.{no-longer, mask-next, no-mask, Walked, walk-ends, walk-after-done, AtMask}
 use Rattle.run.proofs.ToldFromLaws.{walk-refused, walk-here, walk-fits, walk-on, walk-begins}

@@ -5,7 +5,8 @@ use mathlib.Core.Bool.{Bool, false, _&&_, and-false}
 use Prim.Native.Nat.{ℕ, _-_, _%_, _^_, _≤_}
 use native.Mathlib.Omega.{arith}
 use lib.Bits.{bitXor}
-use Rattle.network.specs.Mask.{bit, anyBelow}
+use Rattle.network.specs.Mask.{bit}
+use Rattle.network.specs.Below.{anyBelow}
 use Rattle.network.proofs.Booleans.{and-make}
 use Rattle.network.proofs.BelowLaws.{any-make, any-next}
 use Rattle.table.specs.declared.View.{View}

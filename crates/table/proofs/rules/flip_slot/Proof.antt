@@ -6,7 +6,7 @@ use native.Mathlib.Omega.{arith}
 use native.Mathlib.Nat.{min-le-left, min-le-right}
 use lib.Bits.{bitXor}
 use lib.ListN.{getD}
-use Rattle.masks.specs.Masks.{nextInside}
+use Rattle.masks.specs.Next.{nextInside}
 use Rattle.masks.proofs.NextLaws.{Next}
 use Rattle.table.specs.declared.View.{View}
 use Rattle.table.specs.Table.{Within, entry, flipped, setTo}

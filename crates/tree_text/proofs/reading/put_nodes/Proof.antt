@@ -6,7 +6,7 @@ use native.Mathlib.Omega.{arith}
 use lib.ListN.{length}
 use lib.Seq.{sets}
 use Rattle.network.specs.Mask.{joinBelow}
-use Rattle.tree_text.specs.TreeText.{bytesIn}
+use Rattle.tree_text.specs.ReadTree.{bytesIn}
 use Rattle.tree_text.proofs.CodeLaws.{node-put}
 use borrow.Author.Needs.{needs}
 use Rattle.tree_text.proofs.reading.put_nodes.Statement.{statement}

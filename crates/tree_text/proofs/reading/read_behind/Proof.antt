@@ -9,7 +9,8 @@ use Rattle.plan.specs.Answer.{Answer}
 use Rattle.frame.specs.Texts.{framesFrom, atEnd}
 use Rattle.frame.proofs.RunLaws.{frames-end}
 use Rattle.frame.proofs.ReadingLaws.{read-long, frames-stop}
-use Rattle.tree_text.specs.TreeText.{treeReadAnswer, readNode}
+use Rattle.tree_text.specs.TreeRead.{treeReadAnswer}
+use Rattle.tree_text.specs.ReadTree.{readNode}
 use Rattle.tree_text.proofs.TreeTextLaws.{node-reader}
 use Rattle.tree_text.proofs.CodeLaws.{nodes-on}
 use Rattle.tree_text.proofs.reading.read_behind.Statement.{statement}

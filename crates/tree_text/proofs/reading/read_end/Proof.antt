@@ -2,7 +2,7 @@
 use mathlib.Core.Path.{refl, sym}
 use borrow.Author.Tests.{eq-eqb, ne-eqb}
 use Rattle.plan.specs.declared.Refusal.the-variants as refusal
-use Rattle.plan.specs.Answer.{unless}
+use Rattle.plan.specs.Faults.{unless}
 use Rattle.frame.specs.Texts.{atEnd}
 use Rattle.plan.proofs.AnswerLaws.{answered-fine, answered-refused}
 use Rattle.tree_text.proofs.reading.read_end.Statement.{statement}

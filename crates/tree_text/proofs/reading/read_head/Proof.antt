@@ -1,5 +1,5 @@
 -- By what its calls promise. Only the checker need believe this file.
-use Rattle.tree_text.specs.TreeText.{readTreeHead}
+use Rattle.tree_text.specs.ReadTree.{readTreeHead}
 use borrow.Author.Needs.{needs}
 use Rattle.tree_text.proofs.reading.read_head.Statement.{statement}
 use Rattle.tree_text.proofs.reading.read_head.Tie as tie

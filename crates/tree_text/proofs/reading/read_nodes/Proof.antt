@@ -3,7 +3,8 @@ use mathlib.Core.Path.{refl, sym, ap, _∙_}
 use denote.Ref.{now}
 use Rattle.plan.proofs.SliceLaws.{rest-is}
 use Rattle.frame.proofs.ReadingLaws.{then-on, then-stop, read-long}
-use Rattle.tree_text.specs.TreeText.{treeReadAnswer, readTreeHead, readNodes}
+use Rattle.tree_text.specs.TreeRead.{treeReadAnswer}
+use Rattle.tree_text.specs.ReadTree.{readTreeHead, readNodes}
 use borrow.Author.Needs.{needs}
 use Rattle.tree_text.proofs.reading.read_nodes.Statement.{statement}
 use Rattle.tree_text.proofs.reading.read_nodes.Tie as tie

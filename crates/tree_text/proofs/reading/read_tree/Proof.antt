@@ -2,7 +2,7 @@
 use mathlib.Core.Path.{sym, ap, _∙_}
 use denote.Ref.{now}
 use native.Mathlib.Omega.{arith}
-use Rattle.tree_text.specs.TreeText.{treeReadAnswer}
+use Rattle.tree_text.specs.TreeRead.{treeReadAnswer}
 use Rattle.tree_text.proofs.CodeLaws.{read-short, read-refused, read-room, read-done}
 use borrow.Author.Needs.{needs}
 use Rattle.tree_text.proofs.reading.read_tree.Statement.{statement}
