@@ -1,4 +1,4 @@
--- Definitions: what the program prints for its input. A reader must believe this file.
+-- Definitions: what the program prints for its input. Computed: pinned by `by-input` of answer_text/proofs/AnswerTextTheorems.antt.
 use mathlib.Core.Bool.{cond}
 use mathlib.Core.List.{List}
 use Prim.Native.Nat.{ℕ}

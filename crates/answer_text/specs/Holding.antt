@@ -1,4 +1,4 @@
--- Definitions: a text as the program's function hands it back. A reader must believe this file.
+-- Definitions: a text as the program's function hands it back. To be believed, for the contracts only.
 use mathlib.Core.List.{List, _++_}
 use Prim.Native.Nat.{ℕ, _-_}
 use lib.ListN.{length, replicate}

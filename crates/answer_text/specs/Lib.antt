@@ -1,3 +1,3 @@
--- Definitions: the modules of this folder. A reader must believe them.
+-- Definitions: the modules of this folder, in the order in which they are read.
 pub mod AnswerText
 pub mod Holding

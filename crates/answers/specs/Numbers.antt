@@ -1,4 +1,4 @@
--- Definitions: the answer of a call as one number. A reader must believe this file.
+-- Definitions: the answer of a call as one number. To be believed, for the library only.
 use mathlib.Core.Bool.{Bool, cond}
 use Prim.Native.Nat.{ℕ, _+_}
 use lib.Dec.{eqb}

@@ -1,4 +1,4 @@
--- Definitions: what a crew is told, and a step that it followed, as bytes. A reader must believe this file.
+-- Definitions: what a crew is told, and a step that it followed, as bytes. To be believed, for the library only.
 use mathlib.Core.List.{List, [], _∷_}
 use Prim.Native.Nat.{ℕ}
 use Rattle.run.specs.Told.{Told, instruct, complete, refuse}

@@ -1,5 +1,5 @@
 -- Definitions: document 01's cases K1 to K14, with its bytes and numbers, as one statement about the definitions that the contracts cite.
--- A reader must believe this file; proofs/CasesTheorem.antt proves it.
+-- Computed: pinned by `cases` of cases/proofs/CasesTheorem.antt.
 use mathlib.Core.Path.{_≡_}
 use mathlib.Core.Bool.{true}
 use mathlib.Core.List.{List, [], _∷_}

@@ -1,5 +1,5 @@
--- Definitions: what the checker answers. A reader must believe this file, or only what proofs/CheckerTheorems.antt says of it: yes, 6 and 7
--- exactly for the trees that are to get them.
+-- Definitions: what the checker answers. That yes, 6 and 7 are exactly for the trees that are to get them is in
+-- proofs/CheckerTheorems.antt. Computed: pinned by `yes-exactly` of checker/proofs/CheckerTheorems.antt.
 use mathlib.Core.Bool.{true, cond, _&&_}
 use mathlib.Core.List.{List}
 use Prim.Native.Nat.{ℕ, zero, suc, _+_}

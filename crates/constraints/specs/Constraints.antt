@@ -1,4 +1,4 @@
--- Definitions: one constraint kept. A reader must believe this file.
+-- Definitions: one constraint kept. Not to be believed: only theorems and inner contracts use it.
 use mathlib.Core.Bool.{Bool}
 use mathlib.Core.List.{[], _∷_}
 use Rattle.network.specs.Network.{Scenario, Schedule, projected, feasible}

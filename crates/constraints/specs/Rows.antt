@@ -1,5 +1,5 @@
--- Definitions: constraints as an array of numbers, five each, so that they can be lent. A reader need not believe this file: the contracts
--- of the calls speak of the plan alone.
+-- Definitions: constraints as an array of numbers, five each, so that they can be lent. The contracts of the calls speak of the plan alone.
+-- Not to be believed: only theorems and inner contracts use it.
 use mathlib.Core.Path.{_≡_}
 use mathlib.Core.List.{List}
 use Prim.Native.Nat.{ℕ, _+_, _*_, _%_, _<_}

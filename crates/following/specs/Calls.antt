@@ -1,4 +1,4 @@
--- Definitions: a crew's list of calls over one plan and tree (document 01, "The crew's run"). A reader must believe this file.
+-- Definitions: a crew's list of calls over one plan and tree (document 01, "The crew's run"). To be believed, for demand 1.
 use mathlib.Core.List.{List, [], _∷_, _++_}
 use Prim.Native.Nat.{ℕ, zero, suc}
 use Rattle.network.specs.Crew.{Step}
@@ -25,7 +25,8 @@ pub record Progress : Type 0 where
 abbrev pub begun : History → Progress
 begun h = record { history = h; steps = [] }
 
--- Each accepted report (one without a fault) follows the instruction told at the history it was given; no other report follows any.
+-- Each accepted report (one without a fault) follows (document 01's word) the instruction told at the history it was given; no other
+-- report follows any.
 unfoldable pub stepsOf : Told → ℕ → ℕ → List Step
 stepsOf (instruct m) o zero = record { instruction = m; report = o } ∷ []
 stepsOf (instruct m) o (suc fault) = []

@@ -1,4 +1,5 @@
--- Definitions: a text that is written out between quotes, as the numbers of its characters. A reader must believe this file.
+-- Definitions: a text that is written out between quotes, as the numbers of its characters. Computed: pinned by `cases` of
+-- cases/proofs/CasesTheorem.antt.
 use mathlib.Core.List.{List, [], _∷_}
 use Prim.Native.Nat.{ℕ}
 use Prim.Native.Char.{code}

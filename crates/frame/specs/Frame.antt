@@ -1,4 +1,4 @@
--- Definitions: a frame: a line of bytes, two digits each, and a line feed. Its first byte is its kind. A reader must believe this file.
+-- Definitions: a frame: a line of bytes, two digits each, and a line feed. Its first byte is its kind. To be believed, for demand 1, 2.
 use mathlib.Core.List.{List, [], _∷_}
 use Prim.Native.Nat.{ℕ, _/_, _%_, _<_}
 use lib.ListN.{getD}

@@ -1,4 +1,4 @@
--- Definitions: hexadecimal digits, 0-9 and A-F in upper case. A reader must believe this file.
+-- Definitions: hexadecimal digits, 0-9 and A-F in upper case. To be believed, for demand 1, 2.
 use mathlib.Core.Bool.{cond}
 use Prim.Native.Nat.{ℕ, _+_}
 use lib.Dec.{ltb}

@@ -1,6 +1,6 @@
--- Definitions: a position as the code holds it, the state of the game that it stands for, legal moves as the code tests them. A reader must
--- believe `stateOf` and `Proper`. The rest is tied to the game by `legal-exactly` of proofs/LegalLaws.antt, `start-is` and `after-is` of
--- proofs/PositionLaws.antt.
+-- Definitions: a position as the code holds it, the state of the game that it stands for, legal moves as the code tests them. Inner
+-- contracts speak of `stateOf` and `Proper`; `start-is` and `after-is` of proofs/PositionLaws.antt tie the rest to the game too. Computed:
+-- pinned by `legal-exactly` of game/proofs/LegalLaws.antt.
 use mathlib.Core.Path.{_≡_}
 use mathlib.Core.Bool.{Bool, true, false, not, cond, _&&_, _||_}
 use mathlib.Core.List.{List}

@@ -1,5 +1,5 @@
--- Definitions: the faults of a plan record, in document 01's order 2, 3, 4. A reader must believe this file, or only
--- that it gives each number exactly where plan/specs/WellFormed.antt says: the first four theorems of proofs/JudgeTheorems.antt.
+-- Definitions: the faults of a plan record, in document 01's order 2, 3, 4. Computed: pinned by `fine-exactly` of
+-- judge/proofs/JudgeTheorems.antt.
 use mathlib.Core.Bool.{Bool, not, cond, _&&_, _||_}
 use Prim.Native.Nat.{ℕ, _^_}
 use lib.Dec.{leb, ltb, eqb}

@@ -1,5 +1,5 @@
--- Definitions: the legal and timely moves one after the other. A reader need not believe this file: the call's contract speaks of Search.antt
--- alone. `first-step-is` and `next-step-is` of proofs/OrderLaws.antt tie the steps to `FirstOf` and `Timely`.
+-- Definitions: the legal and timely moves one after the other. `first-step-is` and `next-step-is` of proofs/OrderLaws.antt tie the steps to
+-- `FirstOf` and `Timely`. Not to be believed: only theorems and inner contracts use it.
 use mathlib.Core.Path.{_≡_}
 use mathlib.Core.Bool.{Bool, true, not, cond, _&&_}
 use mathlib.Core.List.{List}

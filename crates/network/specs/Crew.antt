@@ -1,5 +1,5 @@
--- Definitions: a crew: the steps that it followed; what it performed and set by them, what it heard and was told. A reader must
--- believe this file.
+-- Definitions: a crew: the steps that it followed; what it performed and set by them, what it heard and was told. To be believed, for
+-- demand 3.
 use mathlib.Core.Path.{_≡_}
 use mathlib.Core.Logic.{_↔_, _⊎_}
 use mathlib.Core.List.{List, [], _∷_}
@@ -39,7 +39,8 @@ Some P (st ∷ log) = P st ⊎ Some P log
 abbrev pub Hears : Network → ℕ → ℕ → Bool → Step → Type 0
 Hears net u l v st = (st .instruction .slot < u) × (hears net (st .instruction) l ≡ true) × (bit (st .report) l ≡ v)
 
--- two crews heard alike before slot u: the conditions heard from earlier slots, and their values, are the same for both
+-- two crews heard alike before slot u (document 01's term): the conditions heard from earlier slots, and their values, are the same for
+-- both
 abbrev pub HeardAlike : Network → List Step → List Step → ℕ → Type 0
 HeardAlike net log log′ u = (l : ℕ) (v : Bool) → Some (Hears net u l v) log ↔ Some (Hears net u l v) log′
 

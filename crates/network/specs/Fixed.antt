@@ -1,4 +1,4 @@
--- Document 01, "Fixed outcomes and the screen": schedules under one setting of all letters. A reader must believe this file.
+-- Document 01, "Fixed outcomes and the screen": schedules under one setting of all letters. To be believed, for the verdict only.
 use mathlib.Core.Path.{_≡_}
 use mathlib.Core.Bool.{true}
 use Prim.Native.Nat.{ℕ, _≤_, _<_}
@@ -10,7 +10,7 @@ pub record ScheduleFor (net : Network) (s : Scenario) (ψ : Schedule) : Type 0 w
   pub within : (x : ℕ) → x < net .points → ψ x ≤ net .horizon
   pub kept : keeps net ψ s ≡ true
 
--- the least schedule: each point is as early in it as in any
+-- the least schedule (document 01's term): each point is as early in it as in any
 pub record Least (net : Network) (s : Scenario) (ψ : Schedule) : Type 0 where
   pub schedule : ScheduleFor net s ψ
   pub earliest : (φ : Schedule) → ScheduleFor net s φ → (x : ℕ) → x < net .points → ψ x ≤ φ x
@@ -20,7 +20,8 @@ pub record Schedulable (net : Network) (s : Scenario) : Type 0 where
   pub slots : Schedule
   pub schedule : ScheduleFor net s slots
 
--- A mask sets all letters: those that it has are true, the others false. It has no letter that the network lacks.
+-- A mask sets all letters (document 01's word: a setting): those that it has are true, the others false. It has no letter that the network
+-- lacks.
 abbrev pub Setting : Network → ℕ → Type 0
 Setting net m = (l : ℕ) → bit m l ≡ true → l < net .letters
 

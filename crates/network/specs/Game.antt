@@ -1,4 +1,4 @@
--- Definitions: the game of document 01, "The search": states, the agent's moves, the world's outcomes. A reader must believe this file.
+-- Definitions: the game of document 01, "The search": states, the agent's moves, the world's outcomes. To be believed, for demand 1, 2, 3.
 use mathlib.Core.Path.{_≡_}
 use mathlib.Core.Bool.{Bool, true, false, not, cond, _&&_}
 use Prim.Native.Nat.{ℕ, suc, _≤_, _<_, _^_}

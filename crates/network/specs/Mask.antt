@@ -1,4 +1,4 @@
--- Definitions: masks, and tests of all numbers below a bound. A reader must believe this file.
+-- Definitions: masks, and tests of all numbers below a bound. To be believed, for demand 1, 2, 3.
 use Prim.Native.Nat.{ℕ, zero, suc, _+_, _*_, _/_, _%_}
 use mathlib.Core.Bool.{Bool, true, false, cond, _&&_}
 use mathlib.Core.List.{List, [], _++_}
@@ -13,7 +13,7 @@ abbrev pub digit : Bool → ℕ
 digit true = 1
 digit false = 0
 
--- the mask of the numbers i below n that have f
+-- the mask (document 01's term) of the numbers i below n that have f
 unfoldable pub mask : ℕ → (ℕ → Bool) → ℕ
 mask zero f = 0
 mask (suc n) f = digit (f zero) + 2 * mask n (λ i. f (suc i))

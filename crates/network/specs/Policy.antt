@@ -1,5 +1,5 @@
 -- Definitions: a crew's policy, without trees or strategies: what it does in a slot depends on the slot and on what it heard from earlier
--- slots only. So each decision is settled with its point and each outcome heard only in a later slot. A reader must believe this file.
+-- slots only. So each decision is settled with its point and each outcome heard only in a later slot. To be believed, for demand 3.
 use mathlib.Core.Path.{_≡_}
 use mathlib.Core.List.{List, [], _∷_}
 use mathlib.Core.Bool.{Bool, true, _&&_}

@@ -1,5 +1,5 @@
 -- Definitions: the raise, which moves points to the slots that their constraints ask. Beside `keeps` it alone knows what a constraint is.
--- A reader need not believe it: the least schedule that it leads to is shown to be one (`least-found` of the crate `verdict`).
+-- Computed: pinned by `least-found` of verdict/proofs/VerdictTheorems.antt.
 use mathlib.Core.Bool.{cond}
 use mathlib.Core.List.{List, [], _∷_}
 use Prim.Native.Nat.{ℕ, suc, _+_, _-_, min, max}

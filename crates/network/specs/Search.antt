@@ -1,5 +1,6 @@
--- Definitions: the search, computed: whether the game can be won, the first winning move, the tree of first moves, "hopeless". A reader
--- need not believe this file for its own sake: proofs/Theorems.antt ties `hopeless` and `firstTree` to the definitions before it.
+-- Definitions: the search: whether the game can be won, the first winning move, the tree of first moves, "hopeless". `first-tree-first` of
+-- proofs/Theorems.antt says of the tree what `hopeless-exactly` says of hopeless. Computed: pinned by `hopeless-exactly` of
+-- network/proofs/Theorems.antt.
 use mathlib.Core.Bool.{Bool, not, cond, _&&_}
 use Prim.Native.Nat.{ℕ, zero, suc, _+_, _-_, _^_}
 use Rattle.network.specs.Mask.{bit, allBelow, firstBelow, count, submask}

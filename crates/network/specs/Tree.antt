@@ -1,4 +1,4 @@
--- Definitions: strategy trees, what makes one sound, the strategy that one describes, its nodes in order. A reader must believe this file.
+-- Definitions: strategy trees, what makes one sound, the strategy that one describes, its nodes in order. To be believed, for demand 2, 3.
 use mathlib.Core.Bool.{_&&_}
 use Prim.Native.Nat.{ℕ}
 use mathlib.Core.List.{List, [], _∷_}
@@ -17,7 +17,7 @@ unfoldable pub Sound : Network → (State → Type 0) → Tree → State → Typ
 Sound net E done s = Over net s × E s
 Sound net E (node m next) s = Legal net s m × ((o : ℕ) → Outcome net m o → Sound net E (next o) (after net s m o))
 
--- sound in shape: nothing is asked of where a path ends
+-- sound in shape (document 01's term): nothing is asked of where a path ends
 abbrev pub Shaped : Network → Tree → Type 0
 Shaped net t = Sound net (λ s. Unit {0}) t (start net)
 

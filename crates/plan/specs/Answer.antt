@@ -1,4 +1,4 @@
--- Definitions: what a call answers in document 01's numbers and values. A reader must believe this file.
+-- Definitions: what a call answers in document 01's numbers and values. To be believed, for demand 1, 2, 3.
 use Prim.Native.Nat.{ℕ}
 use Rattle.plan.specs.declared.Refusal.{Refusal}
 use Rattle.plan.specs.Refusal.{refusalNumber}

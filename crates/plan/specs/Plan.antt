@@ -1,4 +1,4 @@
--- Definitions: what a plan record says: its entries, and the network (Definition 2) that it describes. A reader must believe this file.
+-- Definitions: what a plan record says: its entries, and the network (Definition 2) that it describes. To be believed, for demand 1, 2, 3.
 use mathlib.Core.Bool.{cond}
 use mathlib.Core.List.{List, [], _∷_}
 use Prim.Native.Nat.{ℕ, zero, suc, _-_}

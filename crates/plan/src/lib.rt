@@ -7,7 +7,7 @@ ghost use mathlib.Core.Path.{_≡_};
 ghost use Rattle.plan.specs.Plan.{zeroPlan};
 ghost use Rattle.plan.specs.Refusal.{refusalNumber};
 
-// A letter: its disclosing point, and its kind: 0 a condition, 1 a decision. A record can hold any other number.
+// A letter (document 01's term): its disclosing point, and its kind: 0 a condition, 1 a decision. A record can hold any other number.
 pub struct Letter {
     pub point: u8,
     pub kind: u8,

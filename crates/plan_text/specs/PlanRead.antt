@@ -1,4 +1,4 @@
--- Definitions: number and value of what reading a plan hands back. A reader must believe this file.
+-- Definitions: number and value of what reading a plan hands back. To be believed, for the contracts only.
 use Rattle.plan.specs.declared.Plan.{Plan}
 use Rattle.plan.specs.Refusal.{judgedNumber}
 use Rattle.plan.specs.Answer.{Answer}

@@ -1,5 +1,5 @@
--- Definitions: the plan that a text says, or the number of its first faulty frame. A reader must believe this file, or only `read-exactly`,
--- `refused-exactly` and `refused-zero` of proofs/PlanTextTheorems.antt: together they say of every text what is read from it.
+-- Definitions: the plan that a text says, or the number of its first faulty frame. Computed: pinned by `read-exactly` of
+-- plan_text/proofs/PlanTextTheorems.antt.
 use mathlib.Core.Bool.{_&&_}
 use mathlib.Core.List.{List}
 use Prim.Native.Nat.{ℕ, _+_, _*_}

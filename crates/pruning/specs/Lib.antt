@@ -1,2 +1,2 @@
--- Definitions: the modules of this folder. A reader need not believe them.
+-- Definitions: the modules of this folder, in the order in which they are read.
 pub mod Pruning

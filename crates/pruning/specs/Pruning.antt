@@ -1,5 +1,5 @@
--- Definitions: what the table of least slots needs to know of a position. A reader need not believe this file: the contracts of `lost`,
--- `move_lost` and `soonest` speak of the game alone.
+-- Definitions: what the table of least slots needs to know of a position. The contracts of `lost`, `move_lost` and `soonest` speak of the
+-- game alone. Not to be believed: only theorems and inner contracts use it.
 use mathlib.Core.Bool.{_&&_}
 use mathlib.Core.List.{List}
 use Prim.Native.Nat.{ℕ, _%_}

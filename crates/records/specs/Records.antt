@@ -1,5 +1,5 @@
--- Definitions: the fixed layouts of a plan and of a history as bytes. A reader must believe this file; that every record has one list of
--- bytes, and every list of 400 (of nine) bytes one record, is in proofs/RecordsTheorems.antt.
+-- Definitions: the fixed layouts of a plan and of a history as bytes. That every record has one list of bytes, and every list of 400 (of
+-- nine) bytes one record, is in proofs/RecordsTheorems.antt. To be believed, for the library only.
 use mathlib.Core.List.{List, [], _∷_, _++_}
 use Prim.Native.Nat.{ℕ, _+_, _*_, _/_, _%_}
 use lib.ListN.{getD}

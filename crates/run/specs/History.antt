@@ -1,5 +1,5 @@
--- Definitions: a history of reports (document 01, "The crew's run"). A reader must believe this file; nothing else but Run.antt knows where
--- a history keeps its masks.
+-- Definitions: a history of reports (document 01, "The crew's run"). Nothing else but Run.antt knows where a history keeps its masks. To be
+-- believed, for demand 1, 3.
 use mathlib.Core.List.{List, [], _++_}
 use Prim.Native.Nat.{ℕ, _+_, _-_}
 use lib.ListN.{length, set, replicate}

@@ -1,5 +1,5 @@
--- Definitions: what a crew is told, the instruction at a history by the tree, and what a showing and a reporting hand back. A reader must
--- believe this file.
+-- Definitions: what a crew is told, the instruction at a history by the tree, and what a showing and a reporting hand back. To be believed,
+-- for demand 1, 2, 3.
 use mathlib.Core.Bool.{Bool, cond}
 use mathlib.Core.List.{List, [], _∷_}
 use Prim.Native.Nat.{ℕ}

@@ -12,7 +12,7 @@ ghost use Rattle.plan.specs.Refusal.{refusalNumber};
 ghost use Rattle.run.specs.Run.{showAnswer, reportAnswer, historyFine};
 ghost use Rattle.run.specs.Told.{shownTold, reportedAnswer};
 
-// What a crew does next: these points in this slot, with these choices.
+// An instruction (document 01's term), what a crew does next: these points in this slot, with these choices.
 pub struct Instruction {
     pub slot: u8,
     pub points: u8,
@@ -25,7 +25,7 @@ pub struct History {
     pub masks: [u8; 8],
 }
 
-// What showing answers.
+// What showing (document 01's term) answers: an instruction, done, or a refusal.
 pub enum Shown {
     Instruct(Instruction),
     Done,

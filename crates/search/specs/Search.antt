@@ -1,5 +1,5 @@
--- Definitions: what the search answers, and what it leaves in the lent buffer. A reader must believe this file. (`hopeless` and `firstTree`
--- are tied to Definitions 6 to 9 and to document 01's words by the network's theorems; proofs/SearchTheorems.antt says it of this call.)
+-- Definitions: what the search answers, and what it leaves in the lent buffer. `first-moves` and `leaves-tree` of
+-- proofs/SearchTheorems.antt say which tree it leaves. Computed: pinned by `hopeless-exactly` of search/proofs/SearchTheorems.antt.
 use mathlib.Core.Bool.{not, cond}
 use mathlib.Core.List.{List, []}
 use Prim.Native.Nat.{ℕ}

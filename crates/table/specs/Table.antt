@@ -1,5 +1,5 @@
--- Definitions: what the table of least slots says of a win. A reader need not believe this file: the contracts of the crate `pruning` speak
--- of the game alone.
+-- Definitions: what the table of least slots says of a win. The contracts of the crate `pruning` speak of the game alone. Not to be
+-- believed: only theorems and inner contracts use it.
 use mathlib.Core.Path.{_≡_}
 use mathlib.Core.Logic.{_⊎_}
 use mathlib.Core.Bool.{Bool, true, _&&_, _||_}

@@ -1,5 +1,5 @@
--- Definitions: a tree in memory, three bytes to a node, and a lent buffer that holds one. A reader must believe this file; nothing else but
--- Parts.antt knows where a node's bytes stand.
+-- Definitions: a tree in memory, three bytes to a node, and a lent buffer that holds one. Nothing else but Parts.antt knows where a node's
+-- bytes stand. To be believed, for demand 1, 2, 3.
 use mathlib.Core.Bool.{Bool, _&&_}
 use mathlib.Core.List.{List, [], _∷_, _++_}
 use Prim.Native.Nat.{ℕ, _+_, _*_, _/_, _%_, _-_}

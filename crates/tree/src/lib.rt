@@ -5,7 +5,7 @@ ghost use Prim.Native.Nat.{_*_};
 ghost use Rattle.plan.specs.Faults.{putAt};
 ghost use Rattle.tree.specs.Nodes.{legalLength, nodeCount, nodeBytes, nodeAt};
 
-// What is done in a slot: the points performed and the choices made, as masks.
+// A node (document 01's term), what is done in a slot: the points performed and the choices made, as masks.
 pub struct Node {
     pub slot: u8,
     pub points: u8,

@@ -1,4 +1,4 @@
--- Definitions: number and value of each case of what reading a tree hands back. A reader must believe this file.
+-- Definitions: number and value of each case of what reading a tree hands back. To be believed, for the contracts only.
 use Prim.Native.Nat.{ℕ}
 use Rattle.plan.specs.Answer.{Answer, fine, refused}
 use Rattle.tree_text.specs.declared.TreeRead.{TreeRead}

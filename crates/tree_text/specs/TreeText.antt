@@ -1,4 +1,4 @@
--- Definitions: the text of a tree, given as bytes. A reader must believe this file.
+-- Definitions: the text of a tree, given as bytes. To be believed, for demand 1, 2.
 use mathlib.Core.List.{List, [], _∷_, _++_}
 use Prim.Native.Nat.{ℕ}
 use Rattle.network.specs.Mask.{joinBelow}

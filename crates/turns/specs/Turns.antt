@@ -1,5 +1,5 @@
--- Definitions: what the agent's turn and the world's turn find, and what they leave in the bytes lent to them. A reader need not believe
--- this file: the call's contract speaks of Search.antt alone.
+-- Definitions: what the agent's turn and the world's turn find, and what they leave in the bytes lent to them. Not to be believed: only
+-- theorems and inner contracts use it.
 use mathlib.Core.Path.{_≡_}
 use mathlib.Core.List.{List, [], _++_}
 use Prim.Native.Nat.{ℕ, _+_, _-_, _*_}

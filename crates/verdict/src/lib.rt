@@ -25,7 +25,8 @@ pub enum Found {
     Refused(Refusal),
 }
 
-// What was found, and the slot of each point in the least schedule. Unused entries are zero, and all are beside "none" or a refusal.
+// A verdict (document 01's term): what was found, and the slot of each point in the least schedule. Unused entries are zero, and all are
+// beside "none" or a refusal.
 pub struct Verdict {
     pub found: Found,
     pub slots: [u8; 8],

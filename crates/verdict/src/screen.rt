@@ -11,7 +11,7 @@ ghost use Rattle.constraints.specs.Rows.{rowsSay};
 ghost use Rattle.verdict.specs.Verdict.{verdictOf, passes, screened};
 ghost use Rattle.verdict.specs.Answers.{screenAnswer};
 
-// Whether a plan passes the screen, or why the call is refused.
+// Whether a plan passes the screen (document 01's term), or why the call is refused.
 pub enum Screened {
     Passed,
     Failed,
