@@ -30,7 +30,7 @@ use Rattle.plan_text.specs.PlanText.{planText}
 use Rattle.plan_text.specs.WritePlan.{writePlan}
 use Rattle.plan_text.specs.ReadPlan.{readPlan}
 use Rattle.plan_text.proofs.RefusedLaws.{refused}
-use Rattle.plan_text.proofs.PlanTextTheorems.{read-exactly as read-plan-exactly}
+use Rattle.plan_text.proofs.PlanTextTheorems.{refused-exactly, read-exactly as read-plan-exactly}
 use Rattle.tree_text.specs.TreeText.{treeText}
 use Rattle.tree_text.specs.WriteTree.{writeTree}
 use Rattle.tree_text.specs.ReadTree.{readNodes, bytesIn, readTree, readTreeLeaves}
@@ -273,6 +273,7 @@ demand1 =
       judge-letters = letters-refused-exactly;
       judge-constraints = constraints-refused-exactly;
       read-plan = λ t. one-of-more _ _ _ refl (one-between 0 5 (readPlan t .fault) (omega arith) (omega (arith, refused t .0)));
+      read-plan-first = refused-exactly;
       read-plan-zero = λ t. refused t .1;
       write-plan = λ p xs. write-one (planFault p) (planText p) xs _ refl (plan-one _ refl p);
       write-plan-judged = λ p xs n. write-first (planFault p) (planText p) xs (λ e. n (fine-exactly p .0 e));

@@ -22,6 +22,7 @@ use Rattle.frame.specs.Frame.{Bytes, faultText}
 use Rattle.tree.specs.Nodes.{mostBytes, legalLength, firstNodes, overwritten}
 use Rattle.tree.specs.Trees.{Describes}
 use Rattle.plan_text.specs.PlanText.{planText}
+use Rattle.plan_text.specs.FirstFault.{FirstFault}
 use Rattle.tree_text.specs.TreeText.{treeText}
 use Rattle.run.specs.declared.History.{History}
 use Rattle.run.specs.History.{longer}
@@ -57,8 +58,9 @@ pub record Demand1 (P : Planner) : Type 0 where
   pub judge-head : (p : Plan) → (P .judges p ≡ 2) ↔ (¬ FineHead p)
   pub judge-letters : (p : Plan) → (P .judges p ≡ 3) ↔ (FineHead p × ¬ FineLetters p)
   pub judge-constraints : (p : Plan) → (P .judges p ≡ 4) ↔ (FineHead p × FineLetters p × ¬ FineConstraints p)
-  -- Reading a plan text: 1, 2, 3, 4; the plan's place is all zero beside a refusal
+  -- Reading a plan text: 1, 2, 3, 4, by its first faulty frame; the plan's place is all zero beside a refusal
   pub read-plan : (t : List ℕ) → OneOf (0 ∷ 1 ∷ 2 ∷ 3 ∷ 4 ∷ []) (P .readsPlan t .fault)
+  pub read-plan-first : (t : List ℕ) (n : ℕ) → ¬ (n ≡ 0) → (P .readsPlan t .fault ≡ n) ↔ FirstFault t n
   pub read-plan-zero : (t : List ℕ) → ¬ (P .readsPlan t .fault ≡ 0) → P .readsPlan t .value ≡ zeroPlan
   -- Writing one: 2, 3, 4, then 10; else the text's length, and only its bytes change
   pub write-plan : (p : Plan) (xs : List ℕ) → OneOf (0 ∷ 2 ∷ 3 ∷ 4 ∷ 10 ∷ []) (P .writesPlan p xs .fault)
