@@ -1,7 +1,9 @@
 //! `gate try [--whole] [CRATE | CRATE/LABEL]..` tries the wrong programs that are named, of both folders, or all of
-//! crates/*/wrong, each by itself; `gate judge` reads the logs of those and of the must-fail edits that rt ci tried.
-//! Run at the repository's root.
+//! crates/*/wrong, each by itself; `gate judge` reads the logs of those and of the must-fail edits that rt ci tried;
+//! `gate believed [--write | --headers | --write-headers]` compares or writes the page of what must be believed and the
+//! sentences at the ends of the headers. Run at the repository's root.
 
+use gate::believed::{Believed, STATEMENTS};
 use gate::judge::judge;
 use gate::repository::{crates, programs, read, Folder, Program};
 use gate::trial::{Outcome, Trials};
@@ -13,7 +15,10 @@ fn main() -> ExitCode {
     let said = match words.split_first() {
         Some((first, rest)) if first == "try" => try_programs(rest),
         Some((first, [])) if first == "judge" => judge_all(),
-        _ => Err("usage: gate try [--whole] [CRATE | CRATE/LABEL].., or gate judge".to_string()),
+        Some((first, rest)) if first == "believed" => believed(rest),
+        _ => {
+            Err("usage: gate try [--whole] [CRATE | CRATE/LABEL].., gate judge, or gate believed [OPTION]".to_string())
+        }
     };
     match said {
         Ok(0) => ExitCode::SUCCESS,
@@ -109,6 +114,26 @@ fn judge_all() -> Result<usize, String> {
     }
     println!("{} wrong programs judged, {faults} faults", programs.len());
     Ok(faults)
+}
+
+/// Compares what must be believed with the page and the headers, or writes them. How many faults there are.
+fn believed(words: &[String]) -> Result<usize, String> {
+    let root = std::env::current_dir().map_err(|e| e.to_string())?;
+    let believed = Believed::read(&root, &STATEMENTS)?;
+    match words.iter().map(String::as_str).collect::<Vec<_>>().as_slice() {
+        [] => (),
+        ["--write"] => return believed.write().map(|()| 0),
+        ["--write-headers"] => return believed.write_headers().map(|()| 0),
+        ["--headers"] => {
+            believed.headers().iter().for_each(|h| println!("{h}"));
+            return Ok(0);
+        }
+        _ => return Err(format!("{} is no option", words.join(" "))),
+    }
+    let faults = believed.faults();
+    faults.iter().for_each(|f| println!("{f}"));
+    println!("{} lines to be believed, {} faults", believed.page().lines().count(), faults.len());
+    Ok(faults.len())
 }
 
 fn tried(p: &Program, root: &Path) -> bool {

@@ -1,0 +1,116 @@
+//! What must be believed, on one page: every name is followed from the statements, and nothing else is to be believed.
+//!
+//! `antt` takes a file of definitions apart, `scope` says which names a declaration mentions, `definitions` what a name
+//! means in its file, `code` finds the code's types, `reach` follows the names, `page` writes what was found, and
+//! `headers` compares it with what the files say of themselves.
+
+pub mod antt;
+pub mod code;
+pub mod definitions;
+pub mod headers;
+pub mod page;
+pub mod reach;
+pub mod scope;
+
+use crate::repository::read;
+use definitions::Definitions;
+use reach::Reached;
+use std::path::Path;
+
+/// The page, and how long it may be.
+pub const PAGE: &str = "docs/BELIEVED.md";
+pub const MOST_LINES: usize = 800;
+
+/// A statement: its title on the page, its word in headers, and its roots: crate, file and name of each.
+pub struct Statement<'a> {
+    pub title: &'a str,
+    pub word: &'a str,
+    pub roots: &'a [(&'a str, &'a str, &'a str)],
+}
+
+/// The statements, in the order in which they are read.
+pub const STATEMENTS: [Statement; 5] = [
+    Statement { title: "Demand 1", word: "demand 1", roots: &[("demands", "Demand1", "Demand1")] },
+    Statement { title: "Demand 2", word: "demand 2", roots: &[("demands", "Demand2", "Demand2")] },
+    Statement { title: "Demand 3", word: "demand 3", roots: &[("demands", "Demand3", "Demand3")] },
+    Statement {
+        title: "The verdict and the screen",
+        word: "the verdict",
+        roots: &[("verdict", "Says", "Says"), ("network", "Fixed", "PassesScreen")],
+    },
+    // what the contracts of the calls say of what the code hands back
+    Statement {
+        title: "How the code's answers are read",
+        word: "the contracts",
+        roots: &[
+            ("plan", "Refusal", "judgedNumber"),
+            ("frame", "Written", "writtenAnswer"),
+            ("plan_text", "PlanRead", "planReadAnswer"),
+            ("tree_text", "TreeRead", "treeReadAnswer"),
+            ("verdict", "Answers", "verdictAnswer"),
+            ("verdict", "Answers", "screenAnswer"),
+            ("search", "Searched", "searchedAnswer"),
+            ("run", "Told", "shownTold"),
+            ("run", "Told", "reportedAnswer"),
+            ("following", "Following", "callsIn"),
+            ("following", "Following", "followedRecord"),
+            ("answer_text", "Holding", "holding"),
+        ],
+    },
+];
+
+/// All definitions, and what each statement reaches of them.
+pub struct Believed<'a> {
+    root: &'a Path,
+    statements: &'a [Statement<'a>],
+    definitions: Definitions,
+    reached: Vec<Reached>,
+}
+
+impl<'a> Believed<'a> {
+    pub fn read(root: &'a Path, statements: &'a [Statement<'a>]) -> Result<Believed<'a>, String> {
+        let definitions = Definitions::read(root)?;
+        let reached = statements.iter().map(|s| Reached::from(root, &definitions, s.roots)).collect();
+        Ok(Believed { root, statements, definitions, reached })
+    }
+
+    pub fn page(&self) -> String {
+        page::page(&self.definitions, self.statements, &self.reached)
+    }
+
+    /// What is wrong: a name that leads nowhere, a header that disagrees, a page that is not current or too long.
+    pub fn faults(&self) -> Vec<String> {
+        let mut found: Vec<String> = self.reached.iter().flat_map(|r| r.faults.iter().cloned()).collect();
+        found.sort();
+        found.dedup();
+        found.extend(headers::faults(self.root, &self.definitions, self.statements, &self.reached));
+        let page = self.page();
+        if read(&self.root.join(PAGE)).ok().as_ref() != Some(&page) {
+            found.push(format!("{PAGE} is not current: gate believed --write makes it"));
+        }
+        if page.lines().count() > MOST_LINES {
+            found.push(format!("{PAGE} has {} lines, more than {MOST_LINES}", page.lines().count()));
+        }
+        found
+    }
+
+    pub fn write(&self) -> Result<(), String> {
+        std::fs::write(self.root.join(PAGE), self.page()).map_err(|e| format!("{PAGE}: {e}"))
+    }
+
+    pub fn write_headers(&self) -> Result<(), String> {
+        headers::write(self.root, &self.definitions, self.statements, &self.reached)
+    }
+
+    /// For each file the sentence with which its header has to end; where nothing reaches it, the one that it has.
+    pub fn headers(&self) -> Vec<String> {
+        let sources = self.definitions.sources.iter().enumerate();
+        let said = sources.map(|(n, source)| {
+            let header = source.file.header_text();
+            let wanted = headers::sentence(&headers::reaching(self.statements, &self.reached, n));
+            let wanted = wanted.unwrap_or_else(|| format!("(not reached) {}", headers::split(&header).1));
+            format!("{}: {wanted}", source.path())
+        });
+        said.collect()
+    }
+}
