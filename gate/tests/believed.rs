@@ -274,6 +274,23 @@ fn a_list_of_modules_with_another_header() {
     let planted = Planted::new();
     planted.edit("crates/two/specs/Lib.antt", "in which they are read", "of their names");
     planted.only_fault("two/specs/Lib.antt: its first line has to be");
+    planted.read(|b| b.write_headers().expect("headers can be written"));
+    assert_eq!(planted.faults(), Vec::<String>::new());
+}
+
+#[test]
+fn a_header_that_speaks_twice() {
+    let planted = Planted::new();
+    planted.edit("crates/one/specs/Base.antt", "numbers. To", "numbers. A reader must believe them. To");
+    planted.only_fault("one/specs/Base.antt: its header speaks of belief before its last sentence");
+}
+
+#[test]
+fn names_in_a_list_of_several_lines() {
+    let planted = Planted::new();
+    let broken = "Base.{\n  Pair, Sign, minus,\n  sum as total,\n  worth\n}";
+    planted.edit("crates/two/specs/Claim.antt", "Base.{Pair, Sign, minus, sum as total, worth}", broken);
+    assert_eq!(planted.faults(), Vec::<String>::new());
 }
 
 #[test]

@@ -47,7 +47,10 @@ pub fn faults(root: &Path, definitions: &Definitions, statements: &[Statement], 
     for (n, source) in definitions.sources.iter().enumerate() {
         found.extend(mixed(n, source, reached));
         let header = source.file.header_text();
-        let said = split(&header).1;
+        let (description, said) = split(&header);
+        if description.contains("believe") {
+            found.push(format!("{}: its header speaks of belief before its last sentence", source.path()));
+        }
         match sentence(&reaching(statements, reached, n)) {
             Some(wanted) if said == wanted => (),
             Some(wanted) => found.push(format!("{}: its header has to end: {wanted}", source.path())),
@@ -93,13 +96,20 @@ fn lists(root: &Path, definitions: &Definitions) -> Vec<String> {
 }
 
 /// Writes the sentence that belongs there into each header that a statement reaches, unless it says that none does: such
-/// a file has to be looked at.
+/// a file has to be looked at. Writes the header of each list of modules too.
 pub fn write(
     root: &Path,
     definitions: &Definitions,
     statements: &[Statement],
     reached: &[Reached],
 ) -> Result<(), String> {
+    for krate in &definitions.crates {
+        let file = root.join("crates").join(krate).join("specs/Lib.antt");
+        if let Ok(text) = read(&file) {
+            let modules = text.lines().skip_while(|l| l.starts_with("--")).map(|l| format!("{l}\n"));
+            put(&file, &format!("-- {LIST}\n{}", modules.collect::<String>()))?;
+        }
+    }
     for (n, source) in definitions.sources.iter().enumerate() {
         let header = source.file.header_text();
         let Some(wanted) = sentence(&reaching(statements, reached, n)) else { continue };
@@ -107,11 +117,14 @@ pub fn write(
         if said != wanted && (said.is_empty() || said.starts_with(BELIEVED)) {
             let file = root.join("crates").join(source.path());
             let body = source.file.lines[source.file.header..].join("\n");
-            let text = format!("{}\n{body}\n", wrapped(&format!("{description} {wanted}")));
-            fs::write(&file, text).map_err(|e| format!("{}: {e}", file.display()))?;
+            put(&file, &format!("{}\n{body}\n", wrapped(&format!("{description} {wanted}"))))?;
         }
     }
     Ok(())
+}
+
+fn put(file: &Path, text: &str) -> Result<(), String> {
+    fs::write(file, text).map_err(|e| format!("{}: {e}", file.display()))
 }
 
 fn wrapped(text: &str) -> String {
