@@ -161,15 +161,15 @@ fn definitions_stand_before_their_users_with_their_comments() {
     let at = |words: &str| page.find(words).unwrap_or_else(|| panic!("{words} is not on the page:\n{page}"));
     let order = [
         "## Demand 1",
-        "-- one/src/lib.rt",
+        "-- == one/src/lib.rt",
         "// A shade (not shown before what names it).\npub struct Shade {",
         "// A colour.\npub enum Colour {\n    Red,\n    Shade(Shade),\n}",
-        "-- one/specs/Base.antt\n-- ---- two numbers\n-- a pair\npub record Pair : Type 0 where\n",
+        "-- == one/specs/Base.antt\n-- ---- two numbers\n-- a pair\npub record Pair : Type 0 where\n",
         "  -- the other one\n  pub right : ℕ\n",
         "pub data Sign",
         "abbrev pub worth",
         "module _ (p : Pair) where\n  -- both together\n  unfoldable pub sum : Sign → ℕ\n",
-        "-- two/specs/Claim.antt\npub record Claim",
+        "-- == two/specs/Claim.antt\npub record Claim",
         "## The rest",
         "abbrev pub rest",
         "- `Prim.Native.Nat`: `_+_`, `ℕ`",

@@ -28,7 +28,7 @@ pub fn page(definitions: &Definitions, statements: &[Statement], reached: &[Reac
         let own = parts(definitions, reached, &shown);
         let all = lines(&parts(definitions, reached, &Reached::default()));
         rows.push(format!("| {} | {} | {all} |", statement.title, lines(&own)));
-        let own: Vec<String> = own.iter().map(|p| format!("-- {}\n{}", p.path, p.lines.join("\n"))).collect();
+        let own: Vec<String> = own.iter().map(|p| format!("-- == {}\n{}", p.path, p.lines.join("\n"))).collect();
         text += &format!("\n## {}\n\n```\n{}\n```\n", statement.title, own.join("\n\n"));
         shown.items.extend(&reached.items);
         shown.types.extend(reached.types.clone());
