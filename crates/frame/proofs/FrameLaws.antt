@@ -7,10 +7,11 @@ use Prim.Native.Nat.{ℕ, zero, suc, _≤_, _<_, _+_, _*_, _/_, _%_}
 use native.Mathlib.Omega.{arith}
 use native.Mathlib.Nat.{not-suc-le-zero}
 use lib.Dec.{ltb, eqb, lit<}
-use lib.ListN.{length, getD, drop}
+use lib.ListN.{length, getD, drop, take}
+use lib.Seq.{getD-take}
 use Rattle.network.specs.Mask.{allBelow}
 use Rattle.network.proofs.Booleans.{and-left, and-right, and-make, ltb-yes, ltb-is, eqb-yes, eqb-is}
-use Rattle.network.proofs.BelowLaws.{all-at, all-make}
+use Rattle.network.proofs.BelowLaws.{all-at, all-make, all-cong}
 use Rattle.plan.specs.Plan.{listed}
 use Rattle.plan.proofs.PlanLaws.{listed-same}
 use Rattle.frame.specs.Hex.{hexDigit}
@@ -192,3 +193,19 @@ whole-exactly kind n s lt = (
       let (bs, r, long, each, is) = h in
       rw (← long, is) (whole-back kind bs r (bytes-more kind bs lt each)),
 )
+
+-- ---- and by its own characters alone
+
+byte-front : (m : ℕ) (s : List ℕ) (k : ℕ) → 2 * k + 1 < m → byteAt (take m s) k ≡ byteAt s k
+unfolding byteAt
+byte-front m s k lt = rw (getD-take m s (2 * k) 0 (omega arith), getD-take m s (2 * k + 1) 0 lt)
+
+pub whole-front : (kind n : ℕ) (s : List ℕ) → whole kind (suc n) (take (frameLength (suc n)) s) ≡ whole kind (suc n) s
+unfolding whole
+whole-front kind n s =
+    let m = frameLength (suc n) in
+    rw (
+      byte-front m s 0 (omega arith),
+      all-cong (suc n) (λ k. ltb (byteAt (take m s) k) 256) (λ k. ltb (byteAt s k) 256) (λ k lt. rw (byte-front m s k (omega arith))),
+      getD-take m s (2 * suc n) 0 (omega arith),
+    )

@@ -17,7 +17,7 @@ use Rattle.plan.specs.Plan.{zeroLetter, zeroConstraint, zeroPlan, letterAt, con
 use Rattle.plan.specs.WellFormed.{WellFormed}
 use Rattle.plan.proofs.RefusalLaws.{fine-is, refused-is, no-refusal}
 use Rattle.frame.specs.Frame.{Bytes, frameText}
-use Rattle.frame.specs.ReadFrame.{whole}
+use Rattle.frame.specs.ReadFrame.{frameLength, whole}
 use Rattle.frame.proofs.FrameLaws as frames
 use Rattle.frame.proofs.RunLaws.{filled-front}
 use Rattle.plan_text.specs.declared.PlanRead.{PlanRead}
@@ -68,12 +68,20 @@ read-refused-exactly t r e k =
       λ f. refused-is (r .answer) k (number ∙ fault-is t (refusalNumber k) f),
     )
 
--- What `FirstFault` rests on: a text begins with a whole frame of a kind exactly where it begins with the text of that kind and n bytes ..
+-- a text has one such number at most
+pub one-number : (t : List ℕ) (m n : ℕ) → FirstFault t m → FirstFault t n → m ≡ n
+one-number t m n f g = sym (fault-is t m f) ∙ fault-is t n g
+
+-- What `FirstFault` rests on. A text begins with a whole frame of a kind exactly where it begins with the text of that kind and n bytes ..
 pub whole-exactly :
     (kind n : ℕ) (s : List ℕ) → kind < 256 →
     (whole kind (suc n) s ≡ true)
     ↔ ((bs : List ℕ) × (r : List ℕ) × (length bs ≡ n) × Bytes bs × (s ≡ frameText (kind ∷ bs) ++ r))
 whole-exactly = frames.whole-exactly
+
+-- .. which the frame's own characters say, whatever follows them ..
+pub whole-front : (kind n : ℕ) (s : List ℕ) → whole kind (suc n) (take (frameLength (suc n)) s) ≡ whole kind (suc n) s
+whole-front = frames.whole-front
 
 -- .. and a plan is fine to its last frame exactly where it is well formed, its unused entries aside
 pub front-exactly :

@@ -13,6 +13,7 @@ use lib.Seq.{drop-drop}
 use Rattle.network.specs.Mask.{joinBelow}
 use Rattle.network.proofs.Booleans.{by-test, and-left, and-right, and-make, leb-yes, leb-no, leb-is, eqb-is, differs}
 use Rattle.network.proofs.JoinLaws.{join-cong, join-length, drop-to-piece}
+use Rattle.plan.specs.declared.Refusal.{Refusal}
 use Rattle.plan.specs.declared.Refusal.the-variants as refusal
 use Rattle.plan.specs.Refusal.{refusalNumber}
 use Rattle.plan.specs.Answer.{Answer, fine, refused}
@@ -22,12 +23,16 @@ use Rattle.frame.specs.Frame.{Bytes}
 use Rattle.frame.specs.ReadFrame.{frameLength, valueAt, whole}
 use Rattle.frame.specs.Texts.{frameFault, atEnd}
 use Rattle.frame.proofs.FrameLaws.{bytes, bytes-append, value-back, whole-back, frame-behind, whole-said}
+use Rattle.plan.proofs.RefusalLaws.{no-refusal, refusal-one-number}
 use Rattle.plan.proofs.AnswerLaws.{unless-of}
 use Rattle.frame.proofs.RunLaws.{frame-fault-of, then-each, run-each, frame-read, frame-read-is, at-end, at-end-is, then-goes, then-fine, run-back, run-invariant}
 use Rattle.tree.specs.Nodes.{nodeCount, mostBytes, legalLength, nodeBytes, nodeAt}
 use Rattle.tree.specs.Parts.{mostNodes}
 use Rattle.tree.proofs.NodeLaws.{nodes-length, node-of-bytes, bytes-of-nodes, legal-is, legal-make}
+use Rattle.tree_text.specs.declared.TreeRead.{TreeRead}
+use Rattle.tree_text.specs.declared.TreeRead.the-variants as tree-read
 use Rattle.tree_text.specs.TreeText.{treeHeadText, nodeText, treeText}
+use Rattle.tree_text.specs.TreeRead.{treeReadAnswer}
 use Rattle.tree_text.specs.WriteTree.{writeTree}
 use Rattle.tree_text.specs.ReadTree.{readTree, readTreeHead, readNode, readBehind, readNodes, nodeIn, bytesIn}
 
@@ -302,3 +307,13 @@ room-of t xs other =
     by-cases (decLt (length xs) mostBytes)
     (λ short. absurd (other (ap (λ (x : Answer ℕ). x .fault) (reads-without-room t xs short))))
     (λ long. omega arith)
+
+-- ---- one answer for each fault and value
+
+pub nodes-are : (r : TreeRead) (n : ℕ) → treeReadAnswer r ≡ fine n → r ≡ tree-read.Nodes n
+nodes-are (tree-read.Nodes m) n e = ap tree-read.Nodes (ap (λ (x : Answer ℕ). x .value) e)
+nodes-are (tree-read.Refused k) n e = absurd (no-refusal k (ap (λ (x : Answer ℕ). x .fault) e))
+
+pub refusal-is : (r : TreeRead) (k : Refusal) → treeReadAnswer r ≡ refused 0 k → r ≡ tree-read.Refused k
+refusal-is (tree-read.Nodes m) k e = absurd (no-refusal k (sym (ap (λ (x : Answer ℕ). x .fault) e)))
+refusal-is (tree-read.Refused j) k e = ap tree-read.Refused (refusal-one-number j k (ap (λ (x : Answer ℕ). x .fault) e))

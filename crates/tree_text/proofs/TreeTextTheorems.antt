@@ -9,6 +9,7 @@ use native.Mathlib.Omega.{arith}
 use native.Mathlib.Decide.{decLt}
 use lib.ListN.{length, drop, take, replicate}
 use lib.Seq.{take-at}
+use Rattle.plan.specs.declared.Refusal.{Refusal}
 use Rattle.plan.specs.declared.Refusal.the-variants as refusal
 use Rattle.plan.specs.Answer.{Answer, fine, refused}
 use Rattle.plan.specs.Faults.{filled}
@@ -17,10 +18,13 @@ use Rattle.frame.specs.ReadFrame.{valueAt}
 use Rattle.frame.proofs.RunLaws.{filled-is, filled-front}
 use Rattle.tree.specs.Nodes.{nodeCount, mostBytes, legalLength}
 use Rattle.tree.proofs.NodeLaws.{legal-is}
+use Rattle.tree_text.specs.declared.TreeRead.{TreeRead}
+use Rattle.tree_text.specs.declared.TreeRead.the-variants as tree-read
 use Rattle.tree_text.specs.TreeText.{treeText}
+use Rattle.tree_text.specs.TreeRead.{treeReadAnswer}
 use Rattle.tree_text.specs.WriteTree.{writeTree, writeTreeLeaves}
 use Rattle.tree_text.specs.ReadTree.{readNodes, bytesIn, readTree, readTreeLeaves}
-use Rattle.tree_text.proofs.TreeTextLaws.{reads, one-text, bytes-length, bytes-in-bytes, reads-legal, counts-back, bytes-back, writes, reads-whole, text-length, nodes-refused, reads-with-room, reads-without-room, room-of}
+use Rattle.tree_text.proofs.TreeTextLaws.{reads, one-text, bytes-length, bytes-in-bytes, reads-legal, counts-back, bytes-back, writes, reads-whole, text-length, nodes-refused, reads-with-room, reads-without-room, room-of, nodes-are, refusal-is}
 
 -- A text reads as a tree of these bytes exactly where it is their text and they have a legal length. (`Bytes`: every entry is below 256.)
 pub read-exactly :
@@ -127,6 +131,14 @@ text-refused-exactly t xs = (
       (room, refused-exactly t .0 (sym (reads-with-room t xs room) ∙ e)),
   λ h. reads-with-room t xs (h .0) ∙ refused-exactly t .1 (h .1),
 )
+
+-- what `read_tree` hands back, by its promise, is that answer
+module _ (t xs : List ℕ) (r : TreeRead) (promise : treeReadAnswer r ≡ readTree t xs) where
+  pub handed-nodes : (n : ℕ) → (r ≡ tree-read.Nodes n) ↔ (readTree t xs ≡ fine n)
+  handed-nodes n = (λ e. sym promise ∙ ap treeReadAnswer e, λ e. nodes-are r n (promise ∙ e))
+
+  pub handed-refusal : (k : Refusal) → (r ≡ tree-read.Refused k) ↔ (readTree t xs ≡ refused 0 k)
+  handed-refusal k = (λ e. sym promise ∙ ap treeReadAnswer e, λ e. refusal-is r k (promise ∙ e))
 
 -- ---- writing and reading back
 
