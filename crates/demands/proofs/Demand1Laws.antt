@@ -29,7 +29,7 @@ use Rattle.tree.specs.Nodes.{nodeAt}
 use Rattle.tree.specs.Parts.{fromNode, moveOf}
 use Rattle.run.specs.Run.{nodesBefore, toldHere, toldFrom, unlessFault, reportFault}
 use Rattle.run.specs.Told.{Told, instruct, complete, refuse, mayReport}
-use Rattle.demands.specs.Demand1.{OneOf, Fills}
+use Rattle.demands.specs.Calls.{OneOf, Fills}
 
 -- ---- one of some numbers
 

@@ -1,16 +1,18 @@
 -- Theorem: demand 1. Read the statement in specs/Demand1.antt; only the checker need believe the proof.
 use mathlib.Core.Path.{_≡_, refl, sym, ap, _∙_, subst}
-use mathlib.Core.Logic.{_↔_, inl, inr, ⊎-elim}
+use mathlib.Core.Logic.{_↔_, inl, inr, ⊎-elim, by-cases}
+use mathlib.Core.Bool.{true}
 use mathlib.Core.List.{List, [], _∷_, _++_, append-nil}
 use Prim.Native.Nat.{ℕ, _*_, _^_, _≤_, _<_}
 use native.Mathlib.Omega.{arith}
 use lib.Dec.{leb, ltb, eqb}
-use lib.ListN.{length, take, drop, length-append, length-set}
+use lib.ListN.{length, take, replicate, length-append, length-set}
 use Rattle.network.specs.Mask.{bit}
 use Rattle.network.specs.Game.{start, Move, Outcome}
 use Rattle.network.specs.Tree.{Tree}
 use Rattle.network.specs.Fixed.{Setting}
 use Rattle.network.specs.Search.{firstTree}
+use Rattle.network.proofs.Theorems.{consistent-decided}
 use Rattle.network.proofs.Booleans.{by-test, leb-is, eqb-is, eqb-no, differs, false-exactly}
 use Rattle.plan.specs.declared.Plan.{Plan}
 use Rattle.plan.specs.declared.Refusal.the-variants as refusal
@@ -18,6 +20,7 @@ use Rattle.plan.specs.Answer.{Answer, fine}
 use Rattle.plan.specs.Faults.{unless, answered, filled}
 use Rattle.plan.specs.Plan.{networkOf}
 use Rattle.plan.specs.WellFormed.{WellFormed}
+use Rattle.plan.proofs.PlanTheorems.{is-network}
 use Rattle.plan.proofs.AnswerLaws.{unless-is, first-none, answered-zero}
 use Rattle.judge.specs.Judge.{planFault}
 use Rattle.judge.proofs.JudgeTheorems.{fine-exactly, head-refused-exactly, letters-refused-exactly, constraints-refused-exactly}
@@ -27,12 +30,14 @@ use Rattle.tree.specs.Nodes.{mostBytes, legalLength, firstNodes, overwritten}
 use Rattle.tree.specs.Trees.{treeBytes, Describes}
 use Rattle.tree.proofs.NodeLaws.{legal-is}
 use Rattle.plan_text.specs.PlanText.{planText}
-use Rattle.plan_text.specs.WritePlan.{writePlan}
+use Rattle.plan_text.specs.WritePlan.{writePlan, writePlanLeaves}
 use Rattle.plan_text.specs.ReadPlan.{readPlan}
 use Rattle.plan_text.proofs.RefusedLaws.{refused}
-use Rattle.plan_text.proofs.PlanTextTheorems.{refused-exactly, read-exactly as read-plan-exactly}
+use Rattle.plan_text.specs.FirstFault.{FirstFault, in-head-frame, in-head-values, in-letter-frame, in-letter-values}
+use Rattle.plan_text.specs.FirstFault.{in-constraint-frame, in-constraint-values, extra}
+use Rattle.plan_text.proofs.PlanTextTheorems.{refused-exactly}
 use Rattle.tree_text.specs.TreeText.{treeText}
-use Rattle.tree_text.specs.WriteTree.{writeTree}
+use Rattle.tree_text.specs.WriteTree.{writeTree, writeTreeLeaves}
 use Rattle.tree_text.specs.ReadTree.{readNodes, bytesIn, readTree, readTreeLeaves}
 use Rattle.tree_text.proofs.TreeTextTheorems.{read-exactly, whatever-reads, refused-with-five}
 use Rattle.checker.specs.Checker.{treeFault, checkFault}
@@ -40,11 +45,12 @@ use Rattle.checker.proofs.CheckerTheorems.{six-exactly, seven-exactly, yes-six-
 use Rattle.search.specs.Search.{searchFault, searchAnswer, searchLeaves}
 use Rattle.search.proofs.AnswerLaws.{by-fault, answered-so}
 use Rattle.search.proofs.SearchTheorems.{leaves-tree, front-is-tree, checker-yes, hopeless-leaves, refused-stays, past-stays}
-use Rattle.search.proofs.SearchTheorems.{fault-is, ten-exactly, hopeless-exactly}
+use Rattle.search.proofs.SearchTheorems.{fault-is, ten-exactly, only-bytes, eleven-exactly, fine-exactly as search-fine-exactly}
 use Rattle.search.proofs.SearchTheorems.{plan-first as search-plan-first}
 use Rattle.run.specs.declared.History.{History}
-use Rattle.run.specs.Run.{historyFine, reportsIn, showAnswer, reportFault, reportAnswer}
-use Rattle.run.specs.Told.{Told, instruct, mayReport}
+use Rattle.run.specs.Run.{showAnswer, reportFault, reportAnswer}
+use Rattle.run.specs.History.{historyFine, reportsIn}
+use Rattle.run.specs.Told.{Told, instruct, refuse, mayReport}
 use Rattle.run.proofs.ReportLaws.{may-is}
 use Rattle.run.proofs.ToldLaws.{instructed-so, room-for-one}
 use Rattle.run.proofs.RunTheorems.{check-first, history-next, shows-fine, refusal-handed-on, accepted-longer, refused-same}
@@ -58,11 +64,50 @@ use Rattle.verdict.proofs.AnswerLaws.{eight-answer, screen-plan-fault, fine-ans
 use Rattle.answer_text.specs.AnswerText.{answerText}
 use Rattle.answer_text.proofs.AnswerTextTheorems.{Says, prints-tree, prints-hopeless, tree-legal, by-input}
 use Rattle.demands.specs.ThisPlanner.{planner}
-use Rattle.demands.specs.Demand1.{OneOf, SaysTree, Demand1}
+use Rattle.demands.specs.Calls.{Sized, OneOf, Fills, SaysTree, AnswersJudge, AnswersReadPlan, AnswersWritePlan, AnswersReadTree}
+use Rattle.demands.specs.Calls.{AnswersWriteTree, AnswersCheck, AnswersSearch, AnswersShow, AnswersReport, AnswersVerdict, AnswersProgram}
+use Rattle.demands.specs.Demand1.{Demand1}
 use Rattle.demands.proofs.Demand1Laws.{one-of, one-of-more, one-between, first-one, unless-one, unless-exactly, unless-yes, long-enough}
 use Rattle.demands.proofs.Demand1Laws.{short-exactly, first-exactly, first-zero, first-some, by-plan, plan-one, stays}
 use Rattle.demands.proofs.Demand1Laws.{write-one, write-first, write-room, write-length, write-fills}
 use Rattle.demands.proofs.Demand1Laws.{crewNumbers, Numbered, told-numbered, fault-numbered, report-one, accepted-of}
+
+-- ---- plans and their texts
+
+judge-so : (p : Plan) → AnswersJudge p (planFault p)
+judge-so p =
+    record {
+      numbers = plan-one _ refl p;
+      fine = fine-exactly p;
+      head = head-refused-exactly p;
+      letters = letters-refused-exactly p;
+      constraints = constraints-refused-exactly p;
+    }
+
+-- a fault that is the judge's
+judged-as : (p : Plan) (n : ℕ) → n ≡ planFault p → AnswersJudge p n
+judged-as p n e = subst (AnswersJudge p) (sym e) (judge-so p)
+
+read-plan-so : (t : List ℕ) → AnswersReadPlan t (readPlan t)
+read-plan-so t =
+    record {
+      numbers = one-of-more _ _ _ refl (one-between 0 5 (readPlan t .fault) (omega arith) (omega (arith, refused t .0)));
+      first = refused-exactly t;
+      zero-place = refused t .1;
+    }
+
+write-plan-so : (p : Plan) (xs : List ℕ) → AnswersWritePlan p xs (writePlan p xs) (writePlanLeaves p xs)
+unfolding writePlan
+write-plan-so p xs =
+    let fault = planFault p in
+    let text = planText p in
+    record {
+      judged = λ n. judged-as p _ (write-first fault text xs (λ e. n (fine-exactly p .0 e)));
+      numbers = λ wf. write-one fault text xs _ refl (one-of _ 0 refl (fine-exactly p .1 wf));
+      room = λ wf. write-room fault text xs (fine-exactly p .1 wf);
+      counted = write-length fault text xs;
+      bytes = write-fills fault text xs;
+    }
 
 -- ---- reading a tree text
 
@@ -80,7 +125,7 @@ tree-one t xs = first-one _ _ _ (unless-one _ (leb mostBytes (length xs)) refusa
 tree-read :
     (t xs : List ℕ) → readTree t xs .fault ≡ 0 →
     let bs = bytesIn (readTree t xs .value) t in
-    SaysTree t bs × (length bs ≡ 3 * readTree t xs .value) × (length bs ≤ length xs) × (readTreeLeaves t xs ≡ bs ++ drop (length bs) xs)
+    SaysTree t bs × (length bs ≡ 3 * readTree t xs .value) × Fills 0 bs xs (readTreeLeaves t xs)
 unfolding readTree answered filled
 tree-read t xs e =
     let (long, read) = first-none (unless (leb mostBytes (length xs)) refusal.Buffer) (readNodes t .fault) e in
@@ -88,7 +133,11 @@ tree-read t xs e =
     let n = readNodes t .value in
     let text = whatever-reads t n (ap (λ (k : ℕ). record { fault = k; value = n }) read) in
     let legal = legal-is (length (bytesIn n t)) (text .3) in
-    rw e (record { text = text .0; bytes = text .2; legal = text .3 }, text .1, omega arith, refl)
+    rw e (
+      record { text = text .0; bytes = text .2; legal = text .3 },
+      text .1,
+      record { has-room = λ z. omega arith; front = λ z. refl; refused = λ n. absurd (n refl) },
+    )
 
 -- 10 for the room, before the text
 tree-room : (t xs : List ℕ) → (readTree t xs .fault ≡ 10) ↔ (length xs < mostBytes)
@@ -118,12 +167,40 @@ tree-text t xs long =
           none (bytesIn n t, record { text = text .0; bytes = text .2; legal = text .3 }))),
     )
 
+read-tree-so : (t xs : List ℕ) → AnswersReadTree t xs (readTree t xs) (readTreeLeaves t xs)
+read-tree-so t xs =
+    record {
+      numbers = tree-one t xs;
+      room = tree-room t xs;
+      text = tree-text t xs;
+      read = λ e. let (says, long, fills) = tree-read t xs e in (bytesIn (readTree t xs .value) t, says, long, fills);
+      refused = stays (readTree t xs .fault) (bytesIn (readTree t xs .value) t) xs;
+    }
+
+-- ---- writing one
+
 room-not-six : (bs xs : List ℕ) → ¬ (roomFault (treeText bs) xs ≡ 6)
 unfolding unless
 room-not-six bs xs e =
     by-test (leb (length (treeText bs)) (length xs))
     (λ y. let z : _≡_ {A = ℕ} 0 6 = rw y at e in omega arith)
     (λ z. let t : _≡_ {A = ℕ} 10 6 = rw z at e in omega arith)
+
+write-tree-so : (bs xs : List ℕ) → AnswersWriteTree bs xs (writeTree bs xs) (writeTreeLeaves bs xs)
+unfolding writeTree answered
+write-tree-so bs xs =
+    let legal = legalLength (length bs) in
+    let shape = unless legal refusal.Shape in
+    let text = treeText bs in
+    let six = unless-exactly legal refusal.Shape in
+    let first-six = first-exactly 6 shape (roomFault text xs) (λ z. omega arith) (room-not-six bs xs) in
+    record {
+      numbers = write-one shape text xs _ refl (unless-one _ legal refusal.Shape refl);
+      shape = (λ e. six .0 (first-six .0 e), λ z. first-six .1 (six .1 z));
+      room = λ y. write-room shape text xs (unless-yes legal refusal.Shape y);
+      counted = write-length shape text xs;
+      bytes = write-fills shape text xs;
+    }
 
 -- ---- checking
 
@@ -145,6 +222,42 @@ check-shape-so p bs wf =
       λ none. six .1 (λ w. none (w .tree, w .described)),
     )
 
+check-so : (p : Plan) (bs : List ℕ) → AnswersCheck p bs (checkFault p bs)
+check-so p bs =
+    record {
+      judged = λ n. judged-as p _ (plan-first p bs n);
+      numbers = λ wf. ⊎-elim (one-of _ 0 refl) (⊎-elim (one-of _ 6 refl) (one-of _ 7 refl)) (yes-six-or-seven p wf bs);
+      shape = check-shape-so p bs;
+      broken = λ wf. seven-exactly p wf bs;
+    }
+
+-- one number answers
+judge-one-number : (p : Plan) (n : ℕ) → AnswersJudge p n → n ≡ planFault p
+unfolding OneOf
+judge-one-number p n a =
+    ⊎-elim (λ e. e ∙ sym (fine-exactly p .1 (a .fine .0 e)))
+    (⊎-elim (λ e. e ∙ sym (head-refused-exactly p .1 (a .head .0 e)))
+    (⊎-elim (λ e. e ∙ sym (letters-refused-exactly p .1 (a .letters .0 e)))
+    (⊎-elim (λ e. e ∙ sym (constraints-refused-exactly p .1 (a .constraints .0 e))) (λ none. absurd none))))
+    (a .numbers)
+
+check-one-number : (p : Plan) (bs : List ℕ) (n : ℕ) → AnswersCheck p bs n → n ≡ checkFault p bs
+unfolding OneOf
+check-one-number p bs n a =
+    let so = check-so p bs in
+    by-plan p
+    (λ wf.
+    ⊎-elim
+    (λ e. ⊎-elim (λ zero. e ∙ sym zero)
+    (⊎-elim
+    (λ six. let z : n ≡ 6 = a .shape wf .1 (so .shape wf .0 six) in absurd (omega (arith, e, z)))
+    (λ seven. let z : n ≡ 7 = a .broken wf .1 (so .broken wf .0 seven) in absurd (omega (arith, e, z))))
+    (yes-six-or-seven p wf bs))
+    (⊎-elim (λ e. e ∙ sym (so .shape wf .1 (a .shape wf .0 e)))
+    (⊎-elim (λ e. e ∙ sym (so .broken wf .1 (a .broken wf .0 e))) (λ none. absurd none)))
+    (a .numbers wf))
+    (λ not h. judge-one-number p n (a .judged not) ∙ sym (plan-first p bs not))
+
 -- ---- searching
 
 search-room-so : (p : Plan) (xs : List ℕ) → (searchAnswer p xs .fault ≡ 10) ↔ (length xs < mostBytes)
@@ -159,6 +272,28 @@ search-one p xs =
     (λ room wf n. one-of _ 11 refl)
     (λ room wf c. one-of _ 0 refl))
 
+search-so : (p : Plan) (xs : List ℕ) → AnswersSearch p xs (searchAnswer p xs) (searchLeaves p xs)
+search-so p xs =
+    let is = fault-is p xs in
+    record {
+      room = search-room-so p xs;
+      judged = λ room n. judged-as p _ (is ∙ search-plan-first p xs room n);
+      numbers = λ room wf.
+          by-cases (consistent-decided (networkOf p) (is-network p wf))
+          (λ c. one-of _ 0 refl (is ∙ search-fine-exactly p xs wf room .1 c))
+          (λ none. one-of _ 11 refl (is ∙ eleven-exactly p xs wf room .1 none));
+      tree = λ e.
+          let fine = sym is ∙ e in
+          let bs = firstNodes (searchLeaves p xs) (searchAnswer p xs .value) in
+          let is-tree = sym (front-is-tree p xs fine) in
+          let long = ap length (sym is-tree) ∙ answered-so p xs fine .three-each in
+          let yes = subst (AnswersCheck p bs) (checker-yes p xs fine) (check-so p bs) in
+          (bs, refl, long, yes, leaves-tree p xs fine ∙ ap (λ (x : List ℕ). overwritten x xs) is-tree);
+      hopeless = λ e. hopeless-leaves p xs (sym is ∙ e);
+      refused = λ n m. refused-stays p xs (λ e. n (is ∙ e)) (λ e. m (is ∙ e));
+      past = past-stays p xs;
+    }
+
 -- ---- the crew
 
 pub show-numbered : (p : Plan) (bs : List ℕ) (h : History) → Numbered (showAnswer p bs h)
@@ -168,23 +303,45 @@ show-numbered p bs h =
     (first-one _ _ _ (one-of-more _ _ _ refl (check-one p bs)) (unless-one _ (historyFine h) refusal.Mask refl))
     (told-numbered p (start (networkOf p)) bs (reportsIn h))
 
+show-so : (p : Plan) (bs : List ℕ) (h : History) → AnswersShow p bs h (showAnswer p bs h)
+show-so p bs h =
+    record {
+      numbers = λ n e. one-of-more _ _ _ refl (subst Numbered e (show-numbered p bs h));
+      checked = λ n some a.
+          let is = check-one-number p bs n a in
+          check-first p bs h (λ e. some (is ∙ e)) ∙ ap refuse (sym is);
+      history = λ a z. history-next p bs h (sym (check-one-number p bs 0 a)) z;
+      by-tree = λ a fine t d.
+          let yes = sym (check-one-number p bs 0 a) in
+          shows-fine p (plan-fine p bs yes) bs t d yes h fine;
+    }
+
 pub reports-one : (p : Plan) (bs : List ℕ) (h : History) (o : ℕ) → OneOf (0 ∷ crewNumbers) (reportAnswer p bs h o .fault)
 unfolding reportAnswer
 reports-one p bs h o = report-one p (showAnswer p bs h) o (show-numbered p bs h)
 
-report-instructed-so :
-    (p : Plan) (bs : List ℕ) (h : History) (o : ℕ) (m : Move) → showAnswer p bs h ≡ instruct m →
-    ((reportAnswer p bs h o .fault ≡ 0) ↔ Outcome (networkOf p) m o) × ((reportAnswer p bs h o .fault ≡ 8) ↔ (¬ Outcome (networkOf p) m o))
+report-so : (p : Plan) (bs : List ℕ) (h : History) (o : ℕ) → AnswersReport p h o (showAnswer p bs h) (reportAnswer p bs h o)
 unfolding reportAnswer
-report-instructed-so p bs h o m e =
-    let wf = instructed-so p bs h m e .well-formed in
-    let may = may-is p (wf .head .letters) m o in
-    let fault : reportFault p (showAnswer p bs h) o ≡ unless (mayReport p m o) refusal.Mask = ap (λ (x : Told). reportFault p x o) e in
-    let eight = unless-exactly (mayReport p m o) refusal.Mask in
-    let not = false-exactly may in (
-      (λ f. may .0 (unless-is (mayReport p m o) refusal.Mask (sym fault ∙ f)), λ ok. fault ∙ unless-yes (mayReport p m o) refusal.Mask (may .1 ok)),
-      (λ f. not .0 (eight .0 (sym fault ∙ f)), λ none. fault ∙ eight .1 (not .1 none)),
-    )
+report-so p bs h o =
+    let may : (m : Move) → showAnswer p bs h ≡ instruct m → (mayReport p m o ≡ true) ↔ Outcome (networkOf p) m o
+    = λ m e. may-is p (instructed-so p bs h m e .well-formed .head .letters) m o in
+    let fault : (m : Move) → showAnswer p bs h ≡ instruct m → reportFault p (showAnswer p bs h) o ≡ unless (mayReport p m o) refusal.Mask
+    = λ m e. ap (λ (x : Told). reportFault p x o) e in
+    record {
+      numbers = one-of-more _ _ _ refl (reports-one p bs h o);
+      shown = λ n e. refusal-handed-on p bs h o n e;
+      done = λ e. ap (λ (x : Told). reportFault p x o) e;
+      accepted = λ m e. (
+        λ f. may m e .0 (unless-is (mayReport p m o) refusal.Mask (sym (fault m e) ∙ f)),
+        λ ok. fault m e ∙ unless-yes (mayReport p m o) refusal.Mask (may m e .1 ok),
+      );
+      mask = λ m e.
+          let eight = unless-exactly (mayReport p m o) refusal.Mask in
+          let not = false-exactly (may m e) in
+          (λ f. not .0 (eight .0 (sym (fault m e) ∙ f)), λ none. fault m e ∙ eight .1 (not .1 none));
+      lengthened = accepted-longer p bs h o;
+      refused = refused-same p bs h o;
+    }
 
 -- ---- lists of calls
 
@@ -243,104 +400,75 @@ fixed-letters-so p values wf = (
   mask-fault p values wf,
 )
 
+verdict-so : (p : Plan) (values : ℕ) → AnswersVerdict p values (leastSchedule p values)
+unfolding leastSchedule verdictFault answered
+verdict-so p values =
+    let letters = unless (ltb values (2 ^ p .letters)) refusal.Mask in
+    record {
+      judged = λ n. judged-as p _ (first-some (planFault p) letters (λ e. n (fine-exactly p .0 e)));
+      numbers = λ wf. first-one _ _ _ (one-of _ 0 refl (fine-exactly p .1 wf)) (unless-one _ (ltb values (2 ^ p .letters)) refusal.Mask refl);
+      letters = fixed-letters-so p values;
+      refused = answered-zero none (verdictFault p values) (verdictOf (networkOf p) (bit values));
+      zeros = eight-answer p values .zeros;
+    }
+
 -- ---- the program
 
--- what is printed for a plan that was read, whatever the buffer that the search is lent
-module _ (input : List ℕ) (p : Plan) (read : readPlan (take 1026 input) ≡ fine p) where
-  says : Says input p
-  says = read-plan-exactly (take 1026 input) p .0 read
+-- a buffer for the search
+abbrev blank : List ℕ
+blank = replicate mostBytes 0
 
-  prints-tree-so :
-      (xs : List ℕ) → searchAnswer p xs .fault ≡ 0 → answerText input ≡ treeText (firstNodes (searchLeaves p xs) (searchAnswer p xs .value))
-  prints-tree-so xs e =
-      let none = sym (fault-is p xs) ∙ e in
-      let a = answered-so p xs none in
-      prints-tree input p says (a .consistent) ∙ ap treeText (sym (front-is-tree p xs none))
+-- no faulty frame has the number 0
+first-fault-some : (t : List ℕ) (n : ℕ) → FirstFault t n → ¬ (n ≡ 0)
+first-fault-some t n (in-head-frame rest z) e = omega arith
+first-fault-some t n (in-head-values p rest b bad) e = omega arith
+first-fault-some t n (in-letter-frame p i rest f lt z) e = omega arith
+first-fault-some t n (in-letter-values p i k l rest f lt b bad) e = omega arith
+first-fault-some t n (in-constraint-frame p j rest f lt z) e = omega arith
+first-fault-some t n (in-constraint-values p j c rest f lt b bad) e = omega arith
+first-fault-some t n (extra p c rest f) e = omega arith
 
-  prints-hopeless-so : (xs : List ℕ) → searchAnswer p xs .fault ≡ 11 → answerText input ≡ faultText 11
-  prints-hopeless-so xs e =
-      let (room, wf, none) = hopeless-exactly p xs .0 (sym (fault-is p xs) ∙ e) in prints-hopeless input p says none
+program-so : (input : List ℕ) → AnswersProgram input (answerText input)
+unfolding answerText
+program-so input =
+    let t = take 1026 input in
+    let says : (p : Plan) → Sized p → WellFormed p → t ≡ planText p → Says input p = λ p (six, sixty-four) wf e. (e, wf, six, sixty-four) in
+    record {
+      refused = λ n f.
+          let some = first-fault-some t n f in
+          let is = refused-exactly t n some .1 f in
+          rw (is, eqb-no n 0 some);
+      hopeless = λ p sized wf e none. prints-hopeless input p (says p sized wf e) none;
+      tree = λ p sized wf e c tree f.
+          let room : mostBytes ≤ length blank = omega arith in
+          let fine = search-fine-exactly p blank wf room .1 c in
+          prints-tree input p (says p sized wf e) c ∙ ap treeText (sym (only-bytes p blank fine tree f));
+      one-of-these = by-input input
+          (λ p says c e. inl (treeBytes (networkOf p) (firstTree (networkOf p)), tree-legal input p says c, e))
+          (λ p says n e. inr (11, one-of _ 11 refl refl, e))
+          (λ none n low high e. inr (n, one-of-more _ _ _ refl (one-between 1 4 n low (omega arith)), e));
+    }
 
 -- ---- The theorem
 
 pub demand1 : Demand1 planner
-unfolding writePlan writeTree leastSchedule verdictFault answered reportAnswer screened answerText
+unfolding screened answered
 demand1 =
     record {
-      judge = plan-one _ refl;
-      judge-fine = fine-exactly;
-      judge-head = head-refused-exactly;
-      judge-letters = letters-refused-exactly;
-      judge-constraints = constraints-refused-exactly;
-      read-plan = λ t. one-of-more _ _ _ refl (one-between 0 5 (readPlan t .fault) (omega arith) (omega (arith, refused t .0)));
-      read-plan-first = refused-exactly;
-      read-plan-zero = λ t. refused t .1;
-      write-plan = λ p xs. write-one (planFault p) (planText p) xs _ refl (plan-one _ refl p);
-      write-plan-judged = λ p xs n. write-first (planFault p) (planText p) xs (λ e. n (fine-exactly p .0 e));
-      write-plan-room = λ p xs wf. write-room (planFault p) (planText p) xs (fine-exactly p .1 wf);
-      write-plan-length = λ p. write-length (planFault p) (planText p);
-      write-plan-bytes = λ p. write-fills (planFault p) (planText p);
-      read-tree = λ t xs. one-of-more _ _ _ refl (tree-one t xs);
-      read-tree-room = tree-room;
-      read-tree-text = tree-text;
-      read-tree-bytes = λ t xs e.
-          let (says, long, room, left) = tree-read t xs e in (bytesIn (readTree t xs .value) t, says, long, room, left);
-      read-tree-refused = λ t xs n. stays (readTree t xs .fault) (bytesIn (readTree t xs .value) t) xs n;
-      write-tree = λ bs xs.
-          let legal = legalLength (length bs) in
-          write-one (unless legal refusal.Shape) (treeText bs) xs _ refl (unless-one _ legal refusal.Shape refl);
-      write-tree-shape = λ bs xs.
-          let legal = legalLength (length bs) in
-          let six = unless-exactly legal refusal.Shape in
-          let first-six = first-exactly 6 (unless legal refusal.Shape) (roomFault (treeText bs) xs) (λ z. omega arith) (room-not-six bs xs) in
-          (λ e. six .0 (first-six .0 e), λ z. first-six .1 (six .1 z));
-      write-tree-room = λ bs xs y.
-          write-room (unless (legalLength (length bs)) refusal.Shape) (treeText bs) xs (unless-yes (legalLength (length bs)) refusal.Shape y);
-      write-tree-length = λ bs. write-length (unless (legalLength (length bs)) refusal.Shape) (treeText bs);
-      write-tree-bytes = λ bs. write-fills (unless (legalLength (length bs)) refusal.Shape) (treeText bs);
-      check = λ p bs. one-of-more _ _ _ refl (check-one p bs);
-      check-judged = plan-first;
-      check-shape = check-shape-so;
-      check-broken = λ p bs wf. seven-exactly p wf bs;
-      search = λ p xs. one-of-more _ _ _ refl (search-one p xs);
-      search-room = search-room-so;
-      search-judged = λ p xs room n. fault-is p xs ∙ search-plan-first p xs room n;
-      search-tree = λ p xs e.
-          let fine = sym (fault-is p xs) ∙ e in
-          let bs = firstNodes (searchLeaves p xs) (searchAnswer p xs .value) in
-          let is-tree = sym (front-is-tree p xs fine) in
-          let long = ap length (sym is-tree) ∙ answered-so p xs fine .three-each in
-          (bs, refl, long, checker-yes p xs fine, leaves-tree p xs fine ∙ ap (λ (x : List ℕ). overwritten x xs) is-tree);
-      search-hopeless = λ p xs e. hopeless-leaves p xs (sym (fault-is p xs) ∙ e);
-      search-refused = λ p xs n m. refused-stays p xs (λ e. n (fault-is p xs ∙ e)) (λ e. m (fault-is p xs ∙ e));
-      search-past = past-stays;
-      show = λ p bs h n e. one-of-more _ _ _ refl (subst Numbered e (show-numbered p bs h));
-      show-checked = check-first;
-      show-history = history-next;
-      show-told = λ p bs h yes fine t d. shows-fine p (plan-fine p bs yes) bs t d yes h fine;
-      report = λ p bs h o. one-of-more _ _ _ refl (reports-one p bs h o);
-      report-shown = λ p bs h o n e. refusal-handed-on p bs h o n e;
-      report-done = λ p bs h o e. ap (λ (x : Told). reportFault p x o) e;
-      report-instructed = report-instructed-so;
-      report-longer = accepted-longer;
-      report-refused = refused-same;
-      follow = λ p bs h calls. refl;
-      follow-few = λ p bs h calls eight.
+      judge = λ p sized. judge-so p;
+      read-plan = read-plan-so;
+      write-plan = λ p sized. write-plan-so p;
+      read-tree = read-tree-so;
+      write-tree = write-tree-so;
+      check = λ p sized. check-so p;
+      search = λ p sized. search-so p;
+      show = λ p sized bs h eight. show-so p bs h;
+      report = λ p sized bs h eight. report-so p bs h;
+      follow = λ p sized bs h eight calls. refl;
+      follow-few = λ p sized bs h eight calls.
           all-calls p bs (begun h) (callsIn calls) (record { eight = eight; counted = omega arith; few = omega arith }) .few;
-      verdict = λ p values. first-one _ _ _ (plan-one _ refl p) (unless-one _ (ltb values (2 ^ p .letters)) refusal.Mask refl);
-      verdict-judged = λ p values n. first-some (planFault p) (unless (ltb values (2 ^ p .letters)) refusal.Mask) (λ e. n (fine-exactly p .0 e));
-      verdict-letters = fixed-letters-so;
-      verdict-refused = λ p values. answered-zero none (verdictFault p values) (verdictOf (networkOf p) (bit values));
-      verdict-none = λ p values. eight-answer p values .zeros;
-      screen = λ p. rw (screen-plan-fault p) (plan-one _ refl p);
-      screen-judged = screen-plan-fault;
+      verdict = λ p sized. verdict-so p;
+      screen = λ p sized. subst (AnswersJudge p) (sym (screen-plan-fault p)) (judge-so p);
       refuse-frame = λ r. refl;
-      program = λ input.
-          by-input input
-          (λ p says c e. inl (treeBytes (networkOf p) (firstTree (networkOf p)), tree-legal input p says c, e))
-          (λ p says n e. inr (11, one-of _ 11 refl refl, e))
-          (λ none n low high e. inr (n, one-of-more _ _ _ refl (one-between 1 4 n low (omega arith)), e));
-      program-refused = λ input n. rw (eqb-no (readPlan (take 1026 input) .fault) 0 n);
-      program-tree = prints-tree-so;
-      program-hopeless = prints-hopeless-so;
+      program = program-so;
     }

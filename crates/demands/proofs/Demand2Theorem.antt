@@ -30,7 +30,8 @@ use Rattle.tree_text.proofs.TreeTextTheorems as tree-text
 use Rattle.checker.specs.Checker.{treeFault, checkFault}
 use Rattle.checker.proofs.CheckerTheorems as checker
 use Rattle.demands.specs.ThisPlanner.{planner}
-use Rattle.demands.specs.Demand2.{Sized, planTextIn, treeTextIn, Demand2}
+use Rattle.demands.specs.Calls.{Sized}
+use Rattle.demands.specs.Demand2.{planTextIn, treeTextIn, Demand2}
 use Rattle.demands.proofs.Demand1Laws.{first-zero, long-enough}
 
 -- ---- plan texts
@@ -136,7 +137,7 @@ demand2 =
       tree-exactly = λ t bs xs h room. tree-exactly-so t xs room bs h;
       tree-back = tree-back-so;
       tree-one = tree-one-so;
-      yes-exactly = λ p bs. (
+      yes-exactly = λ p sized bs. (
         λ e.
             let wf = plan-fine p bs e in
             let (t, d, dynamic, viable) = checker.yes-exactly p wf bs .0 e in

@@ -31,7 +31,7 @@ use Rattle.run.specs.Run.{showAnswer, reportAnswer}
 use Rattle.run.specs.Told.{Told, instruct, complete, refuse, instructed, shownTold, reportedAnswer}
 use Rattle.following.specs.Calls.{Run, Call, showing, reporting}
 use Rattle.following.specs.ThisRun.{theRun}
-use Rattle.demands.specs.Demand1.{OneOf}
+use Rattle.demands.specs.Calls.{OneOf}
 use Rattle.demands.specs.Crews.{ShownBy, ReportedBy, Made, showed, reported, Answered, heldAfter, Crew, historyHeld, stepsFollowed, Done}
 use Rattle.demands.specs.Demand3.{CanBeLengthened, EveryCrew, EveryTwoCrews}
 use Rattle.demands.proofs.Demand1Laws.{crewNumbers, refusal-said, Numbered}

@@ -1,5 +1,5 @@
 -- Demand 2, as one statement about a planner: texts read back exactly, each with one text only; the checker says yes exactly for well-formed
--- trees whose strategy is dynamic and viable. A reader must believe this file; proofs/Demand2Theorem.antt proves it of this planner,
+-- trees whose strategy is dynamic and viable. proofs/Demand2Theorem.antt proves it of this planner,
 -- proofs/Impostors.antt refutes it of others.
 use mathlib.Core.Path.{_≡_}
 use mathlib.Core.Logic.{_↔_}
@@ -19,10 +19,7 @@ use Rattle.tree.specs.Trees.{Describes}
 use Rattle.plan_text.specs.PlanText.{planText}
 use Rattle.tree_text.specs.TreeText.{treeText}
 use Rattle.demands.specs.Planner.{Planner}
-
--- a record's arrays have six and 64 places by their types (and a slice's entries are `Bytes`)
-abbrev pub Sized : Plan → Type 0
-Sized p = (length (p .letter) ≡ 6) × (length (p .constraint) ≡ 64)
+use Rattle.demands.specs.Calls.{Sized}
 
 -- what is written of a plan, or of a tree's bytes, into a buffer
 abbrev pub planTextIn : Planner → Plan → List ℕ → List ℕ
@@ -64,7 +61,7 @@ pub record Demand2 (P : Planner) : Type 0 where
   -- The checker. Of any plan record and any bytes: yes exactly where the plan is well formed and the bytes describe a strategy that is dynamic
   -- and viable.
   pub yes-exactly :
-      (p : Plan) (bs : List ℕ) → (P .checks p bs ≡ 0)
+      (p : Plan) → Sized p → (bs : List ℕ) → (P .checks p bs ≡ 0)
       ↔ (WellFormed p × ((σ : Strategy) × DescribesStrategy p bs σ × Dynamic (networkOf p) σ × Viable (networkOf p) σ))
   -- .. and they describe one at most
   pub one-strategy : (p : Plan) (bs : List ℕ) → WellFormed p → (σ τ : Strategy) → DescribesStrategy p bs σ → DescribesStrategy p bs τ → σ ≡ τ

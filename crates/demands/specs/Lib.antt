@@ -1,6 +1,7 @@
 -- Definitions: the modules of this folder, in the order in which they are read. A reader must believe them.
 pub mod Planner
 pub mod ThisPlanner
+pub mod Calls
 pub mod Demand1
 pub mod Demand2
 pub mod FixedOutcomes

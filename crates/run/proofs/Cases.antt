@@ -23,8 +23,8 @@ use Rattle.game.specs.Position.{isLegal}
 use Rattle.checker.specs.Checker.{withSubtrees, nodeAndBelow, subtreeIn, treeFault, checkFault}
 use Rattle.checker.proofs.Cases.{k4-tree, k11-tree, four-ways}
 use Rattle.run.specs.declared.History.{History}
-use Rattle.run.specs.History.{historyOf}
-use Rattle.run.specs.Run.{nodesBefore, toldFrom, unlessFault, showAnswer, reportAnswer, historyFine}
+use Rattle.run.specs.History.{historyOf, historyFine}
+use Rattle.run.specs.Run.{nodesBefore, toldFrom, unlessFault, showAnswer, reportAnswer}
 use Rattle.run.specs.Told.{Told, instruct, complete, refuse, instructionAt}
 
 -- ---- What is computed here. To unfold a name of this section is to unfold all that its line names.

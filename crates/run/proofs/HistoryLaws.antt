@@ -11,7 +11,7 @@ use Rattle.network.specs.Mask.{allBelow}
 use Rattle.network.proofs.Booleans.{by-test, and-left, and-right, and-make, or-right, leb-yes, leb-is, ltb-yes, ltb-no, eqb-yes, eqb-is}
 use Rattle.network.proofs.BelowLaws.{all-at, all-make}
 use Rattle.run.specs.declared.History.{History}
-use Rattle.run.specs.Run.{historyFine}
+use Rattle.run.specs.History.{historyFine}
 
 module _ (h : History) where
   -- mask i is used, or zero

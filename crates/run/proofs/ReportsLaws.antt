@@ -8,8 +8,7 @@ use native.Mathlib.Omega.{arith}
 use lib.ListN.{length, length-append, getD, replicate}
 use lib.Seq.{take-append-seam, getD-append-add}
 use Rattle.plan.proofs.SliceLaws.{all-same, put-next}
-use Rattle.run.specs.History.{historyOf, longer}
-use Rattle.run.specs.Run.{historyFine, reportsIn}
+use Rattle.run.specs.History.{historyOf, longer, historyFine, reportsIn}
 use Rattle.run.proofs.HistoryLaws.{fine-made}
 
 module _ (os : List ℕ) where

@@ -18,8 +18,8 @@ use Rattle.plan.specs.WellFormed.{WellFormed}
 use Rattle.tree.specs.Trees.{Describes}
 use Rattle.checker.specs.Checker.{checkFault}
 use Rattle.run.specs.declared.History.{History}
-use Rattle.run.specs.History.{longer}
-use Rattle.run.specs.Run.{toldFrom, unlessFault, showAnswer, historyFine, historyFault, reportsIn}
+use Rattle.run.specs.History.{longer, historyFine, reportsIn}
+use Rattle.run.specs.Run.{toldFrom, unlessFault, showAnswer, historyFault}
 use Rattle.run.specs.Told.{Told, instruct, complete, refuse, mayReport, instructionAt}
 use Rattle.run.specs.Run.{reportFault, reportAnswer}
 use Rattle.run.proofs.ReportLaws as report-laws

@@ -15,8 +15,8 @@ use Rattle.plan.proofs.RefusalLaws.{some-number}
 use Rattle.plan.proofs.AnswerLaws.{first-refused}
 use Rattle.checker.specs.Checker.{checkFault}
 use Rattle.run.specs.declared.History.{History}
-use Rattle.run.specs.History.{longer}
-use Rattle.run.specs.Run.{toldFrom, unlessFault, showAnswer, reportAnswer, historyFine, reportsIn}
+use Rattle.run.specs.History.{longer, historyFine, reportsIn}
+use Rattle.run.specs.Run.{toldFrom, unlessFault, showAnswer, reportAnswer}
 use Rattle.run.specs.Told.{instruct, complete, refuse, mayReport}
 
 module _ (p : Plan) (bs : List ℕ) (h : History) where

@@ -37,7 +37,8 @@ use Rattle.checker.specs.Checker.{withSubtrees, subtreeAt, treeFault, checkFaul
 use Rattle.checker.proofs.CompleteLaws.{ShapedFrom, allKept, subtrees-found, complete}
 use Rattle.checker.proofs.CheckerTheorems.{yes-exactly}
 use Rattle.run.specs.declared.History.{History}
-use Rattle.run.specs.Run.{nodesFound, nodesBefore, toldFrom, historyFine, historyFault, reportsIn}
+use Rattle.run.specs.Run.{nodesFound, nodesBefore, toldFrom, historyFault}
+use Rattle.run.specs.History.{historyFine, reportsIn}
 use Rattle.run.specs.Told.{Told, instruct, complete as told-done, refuse, mayReport, instructionAt}
 use Rattle.run.specs.Run.{unlessFault, showAnswer}
 use Rattle.run.proofs.ReportLaws.{may-is, outcomeNumber, number-lt, number-is}

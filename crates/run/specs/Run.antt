@@ -1,11 +1,9 @@
 -- Definitions: what a crew is told at a history, read from a tree's bytes, and what showing and reporting answer. Computed: pinned by
 -- `told-is` of run/proofs/RunTheorems.antt.
-use mathlib.Core.Bool.{cond, Bool, _&&_, _||_}
+use mathlib.Core.Bool.{cond}
 use mathlib.Core.List.{List, [], _∷_}
 use Prim.Native.Nat.{ℕ}
-use lib.Dec.{eqb, leb, ltb}
-use lib.ListN.{getD, take}
-use Rattle.network.specs.Mask.{allBelow}
+use lib.Dec.{eqb}
 use Rattle.network.specs.Below.{rank}
 use Rattle.network.specs.Game.{State, start, hears, outcomeAt, after}
 use Rattle.plan.specs.declared.Plan.{Plan}
@@ -20,20 +18,12 @@ use Rattle.checker.specs.declared.Checked.{Checked}
 use Rattle.checker.specs.declared.Checked.the-variants as checked
 use Rattle.checker.specs.Checker.{withSubtrees, subtreeAt, checkFault}
 use Rattle.run.specs.declared.History.{History}
-use Rattle.run.specs.History.{longer}
+use Rattle.run.specs.History.{historyFine, reportsIn, longer}
 use Rattle.run.specs.Told.{instruct, complete, refuse, mayReport, Told}
 
--- ---- Histories: a count 0 to 8, and zeros past it.
-
-unfoldable pub historyFine : History → Bool
-historyFine h = leb (h .count) 8 && allBelow 8 (λ i. ltb i (h .count) || eqb (getD (h .masks) i 0) 0)
-
+-- 8 for a history's count and its unused masks
 abbrev pub historyFault : History → ℕ
 historyFault h = unless (historyFine h) refusal.Mask
-
--- the reports that it holds, in order
-abbrev pub reportsIn : History → List ℕ
-reportsIn h = take (h .count) (h .masks)
 
 -- ---- What is told, by a tree's bytes.
 

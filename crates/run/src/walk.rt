@@ -18,7 +18,8 @@ ghost use Rattle.tree.specs.Nodes.{nodeAt};
 ghost use Rattle.tree.specs.Parts.{moveOf};
 ghost use Rattle.game.specs.Position.{stateOf, Proper, isLegal};
 ghost use Rattle.checker.specs.Checker.{checkFault};
-ghost use Rattle.run.specs.Run.{nodesBefore, toldHere, toldFrom, reportsIn};
+ghost use Rattle.run.specs.Run.{nodesBefore, toldHere, toldFrom};
+ghost use Rattle.run.specs.History.{reportsIn};
 ghost use Rattle.run.specs.Told.{mayReport, shownTold};
 
 // How many nodes stand before the child that this outcome leads to: the node at the front, and the subtrees of the outcomes before it.
