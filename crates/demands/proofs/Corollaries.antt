@@ -24,7 +24,6 @@ use Rattle.following.specs.Calls.{Run, Call, reporting, Progress, begun, afterC
 use Rattle.following.specs.ThisRun.{theRun}
 use Rattle.following.specs.Following.{zeroStep, stepRecord, followedRecord, callsIn}
 use Rattle.demands.specs.ThisPlanner.{planner}
-use Rattle.demands.specs.Calls.{Sized}
 use Rattle.demands.specs.Crews.{Made, showed, reported, Answered, heldAfter, Crew, historyHeld, stepsFollowed, Done}
 use Rattle.demands.specs.Demand3.{SearchedBy}
 use Rattle.demands.proofs.ListLaws.{historyAfter, toldAfter, ListDone, Lengthened, EveryList}
@@ -95,7 +94,7 @@ module _ (R : Run) (p : Plan) (tree : List ℕ) where
 -- ---- Whatever was called, some calls more, at most 8, bring the run to done. So parts 5 and 6 are not empty.
 
 module _
-    (p : Plan) (sized : Sized p) (lent : List ℕ) (wf : WellFormed p) (room : mostBytes ≤ length lent) (r : Searched) (left : List ℕ)
+    (p : Plan) (lent : List ℕ) (wf : WellFormed p) (room : mostBytes ≤ length lent) (r : Searched) (left : List ℕ)
     (by : SearchedBy planner p lent r left) (n : ℕ) (e : r ≡ searched.Nodes n) where
   abbrev pub tree : List ℕ
   tree = firstNodes left n
@@ -103,7 +102,7 @@ module _
   every : (calls : List Call) → EveryList theRun p tree calls
   every calls =
       list-of theRun p tree (run-said p tree) calls
-      (demand3 p sized lent wf room r left by .every-crew n e (crewOf theRun p tree (run-said p tree) calls))
+      (demand3 p lent wf room r left by .every-crew n e (crewOf theRun p tree (run-said p tree) calls))
 
   pub can-be-finished :
       (crew : Crew theRun p tree) → (more : List Made) × (crew′ : Crew theRun p tree)

@@ -455,20 +455,20 @@ pub demand1 : Demand1 planner
 unfolding screened answered
 demand1 =
     record {
-      judge = λ p sized. judge-so p;
+      judge = judge-so;
       read-plan = read-plan-so;
-      write-plan = λ p sized. write-plan-so p;
+      write-plan = write-plan-so;
       read-tree = read-tree-so;
       write-tree = write-tree-so;
-      check = λ p sized. check-so p;
-      search = λ p sized. search-so p;
-      show = λ p sized bs h eight. show-so p bs h;
-      report = λ p sized bs h eight. report-so p bs h;
-      follow = λ p sized bs h eight calls. refl;
-      follow-few = λ p sized bs h eight calls.
+      check = check-so;
+      search = search-so;
+      show = show-so;
+      report = report-so;
+      follow = λ p bs h calls. refl;
+      follow-few = λ p bs h calls eight.
           all-calls p bs (begun h) (callsIn calls) (record { eight = eight; counted = omega arith; few = omega arith }) .few;
-      verdict = λ p sized. verdict-so p;
-      screen = λ p sized. subst (AnswersJudge p) (sym (screen-plan-fault p)) (judge-so p);
+      verdict = verdict-so;
+      screen = λ p. subst (AnswersJudge p) (sym (screen-plan-fault p)) (judge-so p);
       refuse-frame = λ r. refl;
       program = program-so;
     }

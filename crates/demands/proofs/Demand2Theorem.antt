@@ -137,7 +137,7 @@ demand2 =
       tree-exactly = λ t bs xs h room. tree-exactly-so t xs room bs h;
       tree-back = tree-back-so;
       tree-one = tree-one-so;
-      yes-exactly = λ p sized bs. (
+      yes-exactly = λ p bs. (
         λ e.
             let wf = plan-fine p bs e in
             let (t, d, dynamic, viable) = checker.yes-exactly p wf bs .0 e in

@@ -141,4 +141,4 @@ module _ (p : Plan) (lent : List ℕ) (wf : WellFormed p) (room : mostBytes ≤ 
 -- ---- The theorem
 
 pub demand3 : Demand3 planner
-demand3 p sized lent wf room r left by = demand3-for p lent wf room r left by
+demand3 p lent wf room r left by = demand3-for p lent wf room r left by

@@ -7,8 +7,8 @@ use Rattle.demands.specs.FixedOutcomes.{FixedOutcomes}
 pub fixed-outcomes : FixedOutcomes planner
 fixed-outcomes =
     record {
-      verdict = λ p sized. says p;
+      verdict = says;
       one-verdict = one-verdict;
-      passes = λ p sized r so wf. passed-exactly p r so wf;
-      fails = λ p sized r so wf. failed-exactly p r so wf;
+      passes = λ p r so wf. passed-exactly p r so wf;
+      fails = λ p r so wf. failed-exactly p r so wf;
     }

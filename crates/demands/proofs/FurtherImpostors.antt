@@ -42,7 +42,7 @@ accepts-everything = checking (λ p bs. 0)
 
 pub accepts-everything-fails : ¬ Demand2 accepts-everything
 accepts-everything-fails d =
-    let z : _≡_ {A = ℕ} 7 0 = sym (k4-and-k11-to-k13 .1) ∙ demand2 .yes-exactly k4 (refl, refl) k11-tree .1 (d .yes-exactly k4 (refl, refl) k11-tree .0 refl) in
+    let z : _≡_ {A = ℕ} 7 0 = sym (k4-and-k11-to-k13 .1) ∙ demand2 .yes-exactly k4 k11-tree .1 (d .yes-exactly k4 k11-tree .0 refl) in
     omega arith
 
 -- ---- A checker that accepts nothing. It breaks the same clause: it refuses K4's own tree.
@@ -52,7 +52,7 @@ accepts-nothing = checking (λ p bs. 6)
 
 pub accepts-nothing-fails : ¬ Demand2 accepts-nothing
 accepts-nothing-fails d =
-    let z : _≡_ {A = ℕ} 6 0 = d .yes-exactly k4 (refl, refl) k4-tree .1 (demand2 .yes-exactly k4 (refl, refl) k4-tree .0 (k4-and-k11-to-k13 .0)) in omega arith
+    let z : _≡_ {A = ℕ} 6 0 = d .yes-exactly k4 k4-tree .1 (demand2 .yes-exactly k4 k4-tree .0 (k4-and-k11-to-k13 .0)) in omega arith
 
 -- ---- K1: horizon 3, one point, nothing else; and the same at horizon 2
 
@@ -123,4 +123,4 @@ k1-schedule = record { slots = λ x. 0; schedule = record { within = λ x lt. om
 
 pub always-none-fails : ¬ FixedOutcomes always-none
 always-none-fails d =
-    d .verdict k1 (refl, refl) 0 (record { found = found.Nothing; slots = replicate 8 0 }) refl (both-fine .0) k1-setting .0 k1-schedule
+    d .verdict k1 0 (record { found = found.Nothing; slots = replicate 8 0 }) refl (both-fine .0) k1-setting .0 k1-schedule

@@ -47,7 +47,7 @@ use Rattle.following.specs.Calls.{Run, Call, reporting}
 use Rattle.following.specs.ThisRun.{theRun}
 use Rattle.following.proofs.Cases.{calling, step}
 use Rattle.demands.specs.Planner.{Planner}
-use Rattle.demands.specs.Calls.{Sized, OneOf}
+use Rattle.demands.specs.Calls.{OneOf}
 use Rattle.demands.specs.Demand3.{Hopeless, Demand3For, Demand3}
 use Rattle.demands.proofs.Demand1Laws.{unless-one, crewNumbers, Numbered, told-numbered, report-one}
 use Rattle.demands.proofs.Demand1Theorem.{show-numbered}
@@ -69,12 +69,12 @@ not-done : {t : Told} {n : ℕ} → t ≡ refuse n → t ≡ complete → ⊥
 not-done r c = let z : _≡_ {A = ℕ} 0 1 = cc in omega arith
 
 -- what demand 3 says of a plan that got n nodes, and of lists of calls over the tree that was made of it
-module _ (P : Planner) (d : Demand3 P) (p : Plan) (sized : Sized p) (wf : WellFormed p) (n : ℕ) (got : P .searches p lent ≡ fine n) where
+module _ (P : Planner) (d : Demand3 P) (p : Plan) (wf : WellFormed p) (n : ℕ) (got : P .searches p lent ≡ fine n) where
   abbrev made : List ℕ
   made = firstNodes (P .leaves p lent) n
 
   got-tree : Demand3For (P .run) p lent (searched.Nodes n) (P .leaves p lent)
-  got-tree = d p sized lent wf room (searched.Nodes n) (P .leaves p lent) (record { answer = sym got; buffer = refl })
+  got-tree = d p lent wf room (searched.Nodes n) (P .leaves p lent) (record { answer = sym got; buffer = refl })
 
   module _ (said : AllSaid (P .run) p made) where
     every-list : (calls : List Call) → EveryList (P .run) p made calls
@@ -123,7 +123,7 @@ always-hopeless =
 pub always-hopeless-fails : ¬ Demand3 always-hopeless
 unfolding computing
 always-hopeless-fails d =
-    d k1 (refl, refl) lent k1-fine room (searched.Refused refusal.Hopeless) (overwritten [] lent) (record { answer = refl; buffer = refl })
+    d k1 lent k1-fine room (searched.Refused refusal.Hopeless) (overwritten [] lent) (record { answer = refl; buffer = refl })
     .hopeless-exactly .0 refl k1-consistent
 
 -- ---- A search that says 11 before looking, at any plan or buffer. It breaks part 1 too: of K1 it says hopeless, which has a strategy.
@@ -134,7 +134,7 @@ before-looking =
 
 pub before-looking-fails : ¬ Demand3 before-looking
 before-looking-fails d =
-    d k1 (refl, refl) lent k1-fine room (searched.Refused refusal.Hopeless) (overwritten [] lent) (record { answer = refl; buffer = refl })
+    d k1 lent k1-fine room (searched.Refused refusal.Hopeless) (overwritten [] lent) (record { answer = refl; buffer = refl })
     .hopeless-exactly .0 refl k1-consistent
 
 -- ---- A search that leaves the buffer alone. It breaks part 3: the bytes are not those of K1's tree.
@@ -147,7 +147,7 @@ not-hopeless n e = let z : _≡_ {A = ℕ} 0 1 = cc in omega arith
 
 pub buffer-alone-fails : ¬ Demand3 buffer-alone
 buffer-alone-fails d =
-    let gets = got-tree buffer-alone d k1 (refl, refl) k1-fine 1 (k1-answer .1) .gets-tree (not-hopeless 1) (firstTree (networkOf k1)) (first-moves k1 lent (k1-answer .0)) in
+    let gets = got-tree buffer-alone d k1 k1-fine 1 (k1-answer .1) .gets-tree (not-hopeless 1) (firstTree (networkOf k1)) (first-moves k1 lent (k1-answer .0)) in
     let same : lent ≡ overwritten k1-bytes lent = gets .1 ∙ ap (λ (x : List ℕ). overwritten x lent) (k1-answer .2) in
     let z : _≡_ {A = ℕ} 9 0 = ap (λ (x : List ℕ). getD x 0 0) same in
     omega arith
@@ -159,7 +159,7 @@ buffer-alone-told = refl
 
 pub buffer-alone-fails-walking : ¬ Demand3 buffer-alone
 buffer-alone-fails-walking d =
-    no-walk buffer-alone d k1 (refl, refl) k1-fine 1 (k1-answer .1) (run-said k1 (firstNodes lent 1)) 6 buffer-alone-told
+    no-walk buffer-alone d k1 k1-fine 1 (k1-answer .1) (run-said k1 (firstNodes lent 1)) 6 buffer-alone-told
 
 -- ---- A search that hands out the same tree each time. It breaks the walk, part 4: where that tree breaks a constraint of the plan that
 -- was handed in, the crew is refused at once, so it is not done and cannot go on.
@@ -180,7 +180,7 @@ unfolding calling
 same-tree-told = refl
 
 pub same-tree-fails : ¬ Demand3 same-tree
-same-tree-fails d = no-walk same-tree d decided (refl, refl) decided-fine 1 refl (run-said decided k1-bytes) 7 same-tree-told
+same-tree-fails d = no-walk same-tree d decided decided-fine 1 refl (run-said decided k1-bytes) 7 same-tree-told
 
 -- .. even where its run doesn't check the tree: then it breaks part 5, as the crew is led past that plan's constraint.
 abbrev toldUnchecked : Plan → List ℕ → History → Told
@@ -220,7 +220,7 @@ unchecked-breaks = refl
 
 pub same-tree-unchecked-fails : ¬ Demand3 same-tree-unchecked
 same-tree-unchecked-fails d =
-    let all = every-list same-tree-unchecked d decided (refl, refl) decided-fine 1 refl (unchecked-said decided k1-bytes) (reporting 0 ∷ []) in
+    let all = every-list same-tree-unchecked d decided decided-fine 1 refl (unchecked-said decided k1-bytes) (reporting 0 ∷ []) in
     let kept = all .constraints-held (unchecked-run .1) in
     clash (rw (unchecked-run .0) at kept) unchecked-breaks
 
@@ -236,7 +236,7 @@ wrong-count-says = (refl, refl)
 
 pub wrong-count-fails : ¬ Demand3 wrong-count
 wrong-count-fails d =
-    no-walk wrong-count d k1 (refl, refl) k1-fine 2 (wrong-count-says .0) (run-said k1 (firstNodes (searchLeaves k1 lent) 2)) 6 (wrong-count-says .1)
+    no-walk wrong-count d k1 k1-fine 2 (wrong-count-says .0) (run-said k1 (firstNodes (searchLeaves k1 lent) 2)) 6 (wrong-count-says .1)
 
 -- ---- A run that says done early. It breaks part 5: after no call at all it is done, and point 0 was never performed.
 
@@ -249,7 +249,7 @@ early-said p tree = record { shows = λ h. (shown.Done, refl); reports = run-sai
 pub done-early-fails : ¬ Demand3 done-early
 unfolding calling timesPerformed
 done-early-fails d =
-    let all = every-list done-early d k1 (refl, refl) k1-fine 1 (k1-answer .1) (early-said k1 _) [] in
+    let all = every-list done-early d k1 k1-fine 1 (k1-answer .1) (early-said k1 _) [] in
     let z : _≡_ {A = ℕ} 0 1 = all .performed-once refl 0 (omega arith) in
     omega arith
 
@@ -374,7 +374,7 @@ not-told-alike (inr neither) = neither .1 (inr (inr (inl refl)))
 late-lists : Demand3 whole-path → EveryTwoLists ahead late late-tree
 late-lists d =
     subst (EveryTwoLists ahead late) (late-made .1)
-    (every-two-lists whole-path d late (refl, refl) late-fine 4 (late-made .0) (ahead-said late (firstNodes (searchLeaves late lent) 4)))
+    (every-two-lists whole-path d late late-fine 4 (late-made .0) (ahead-said late (firstNodes (searchLeaves late lent) 4)))
 
 pub whole-path-fails : ¬ Demand3 whole-path
 whole-path-fails d =
@@ -396,6 +396,6 @@ any-said p tree =
 pub any-report-fails : ¬ Demand3 any-report
 unfolding calling
 any-report-fails d =
-    let all = every-list any-report d k1 (refl, refl) k1-fine 1 (k1-answer .1) (any-said k1 _) (replicate 9 (reporting 0)) in
+    let all = every-list any-report d k1 k1-fine 1 (k1-answer .1) (any-said k1 _) (replicate 9 (reporting 0)) in
     let z : 9 ≤ 8 = all .at-most-8 in
     omega arith

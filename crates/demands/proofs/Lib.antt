@@ -10,6 +10,7 @@ pub mod CallLaws
 pub mod EveryListLaws
 pub mod Demand3Theorem
 pub mod SaidLaws
+pub mod AgreeLaws
 pub mod Corollaries
 pub mod Cases
 pub mod OtherPlanners

@@ -28,12 +28,9 @@ use Rattle.verdict.specs.Answers.{Fixed, none}
 
 -- ---- Words for what follows
 
--- a record's arrays have six and 64 places by their types, a history's has eight
+-- a record's arrays have six and 64 places by their types
 abbrev pub Sized : Plan → Type 0
 Sized p = (length (p .letter) ≡ 6) × (length (p .constraint) ≡ 64)
-
-abbrev pub Eight : History → Type 0
-Eight h = length (h .masks) ≡ 8
 
 -- one of these numbers
 unfoldable pub OneOf : List ℕ → ℕ → Type 0

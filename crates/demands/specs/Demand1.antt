@@ -13,30 +13,30 @@ use Rattle.run.specs.declared.History.{History}
 use Rattle.following.specs.Calls.{begun, afterCalls}
 use Rattle.following.specs.Following.{callsIn}
 use Rattle.demands.specs.Planner.{Planner}
-use Rattle.demands.specs.Calls.{Sized, Eight, AnswersJudge, AnswersReadPlan, AnswersWritePlan, AnswersReadTree, AnswersWriteTree}
+use Rattle.demands.specs.Calls.{AnswersJudge, AnswersReadPlan, AnswersWritePlan, AnswersReadTree, AnswersWriteTree}
 use Rattle.demands.specs.Calls.{AnswersCheck, AnswersSearch, AnswersShow, AnswersReport, AnswersVerdict, AnswersProgram}
 
 pub record Demand1 (P : Planner) : Type 0 where
-  pub judge : (p : Plan) → Sized p → AnswersJudge p (P .judges p)
+  pub judge : (p : Plan) → AnswersJudge p (P .judges p)
   pub read-plan : (t : List ℕ) → AnswersReadPlan t (P .readsPlan t)
-  pub write-plan : (p : Plan) → Sized p → (xs : List ℕ) → AnswersWritePlan p xs (P .writesPlan p xs) (P .planWritten p xs)
+  pub write-plan : (p : Plan) (xs : List ℕ) → AnswersWritePlan p xs (P .writesPlan p xs) (P .planWritten p xs)
   pub read-tree : (t xs : List ℕ) → AnswersReadTree t xs (P .readsTree t xs) (P .treeRead t xs)
   pub write-tree : (bs xs : List ℕ) → AnswersWriteTree bs xs (P .writesTree bs xs) (P .treeWritten bs xs)
-  pub check : (p : Plan) → Sized p → (bs : List ℕ) → AnswersCheck p bs (P .checks p bs)
-  pub search : (p : Plan) → Sized p → (xs : List ℕ) → AnswersSearch p xs (P .searches p xs) (P .leaves p xs)
-  pub show : (p : Plan) → Sized p → (bs : List ℕ) (h : History) → Eight h → AnswersShow p bs h (P .run .shows p bs h)
+  pub check : (p : Plan) (bs : List ℕ) → AnswersCheck p bs (P .checks p bs)
+  pub search : (p : Plan) (xs : List ℕ) → AnswersSearch p xs (P .searches p xs) (P .leaves p xs)
+  pub show : (p : Plan) (bs : List ℕ) (h : History) → AnswersShow p bs h (P .run .shows p bs h)
   pub report :
-      (p : Plan) → Sized p → (bs : List ℕ) (h : History) → Eight h → (o : ℕ) →
+      (p : Plan) (bs : List ℕ) (h : History) (o : ℕ) →
       AnswersReport p h o (P .run .shows p bs h) (P .run .reports p bs h o)
-  -- following: the calls of the list one after the other, and no more than eight steps
+  -- following: the calls of the list one after the other, and no more than eight steps (a history has eight masks by its type)
   pub follow :
-      (p : Plan) → Sized p → (bs : List ℕ) (h : History) → Eight h → (calls : List ℕ) →
+      (p : Plan) (bs : List ℕ) (h : History) (calls : List ℕ) →
       P .follows p bs h calls ≡ afterCalls (P .run) p bs (begun h) (callsIn calls)
   pub follow-few :
-      (p : Plan) → Sized p → (bs : List ℕ) (h : History) → Eight h → (calls : List ℕ) → length (P .follows p bs h calls .steps) ≤ 8
-  pub verdict : (p : Plan) → Sized p → (values : ℕ) → AnswersVerdict p values (P .fixes p values)
+      (p : Plan) (bs : List ℕ) (h : History) (calls : List ℕ) → length (h .masks) ≡ 8 → length (P .follows p bs h calls .steps) ≤ 8
+  pub verdict : (p : Plan) (values : ℕ) → AnswersVerdict p values (P .fixes p values)
   -- the screen: 2, 3, 4
-  pub screen : (p : Plan) → Sized p → AnswersJudge p (P .screens p .fault)
+  pub screen : (p : Plan) → AnswersJudge p (P .screens p .fault)
   -- a refusal's frame: 7F and its number
   pub refuse-frame : (r : Refusal) → P .refuses r ≡ faultText (refusalNumber r)
   pub program : (input : List ℕ) → AnswersProgram input (P .prints input)

@@ -61,7 +61,7 @@ pub record Demand2 (P : Planner) : Type 0 where
   -- The checker. Of any plan record and any bytes: yes exactly where the plan is well formed and the bytes describe a strategy that is dynamic
   -- and viable.
   pub yes-exactly :
-      (p : Plan) → Sized p → (bs : List ℕ) → (P .checks p bs ≡ 0)
+      (p : Plan) (bs : List ℕ) → (P .checks p bs ≡ 0)
       ↔ (WellFormed p × ((σ : Strategy) × DescribesStrategy p bs σ × Dynamic (networkOf p) σ × Viable (networkOf p) σ))
   -- .. and they describe one at most
   pub one-strategy : (p : Plan) (bs : List ℕ) → WellFormed p → (σ τ : Strategy) → DescribesStrategy p bs σ → DescribesStrategy p bs τ → σ ≡ τ

@@ -34,7 +34,6 @@ use Rattle.run.specs.History.{historyOf, longer}
 use Rattle.run.specs.Told.{instructed, shownTold, instructionAt}
 use Rattle.following.specs.Calls.{Run}
 use Rattle.demands.specs.Planner.{Planner}
-use Rattle.demands.specs.Calls.{Sized}
 use Rattle.demands.specs.Crews.{ReportedBy, Crew, historyHeld, stepsFollowed, reportsMade, Done}
 
 -- ---- The search
@@ -105,5 +104,5 @@ pub record Demand3For (R : Run) (p : Plan) (lent : List ℕ) (r : Searched) (lef
 -- of every well-formed plan and every buffer of 573 bytes or more
 abbrev pub Demand3 : Planner → Type 0
 Demand3 P =
-    (p : Plan) → Sized p → (lent : List ℕ) → WellFormed p → mostBytes ≤ length lent → (r : Searched) (left : List ℕ) → SearchedBy P p lent r left →
+    (p : Plan) (lent : List ℕ) → WellFormed p → mostBytes ≤ length lent → (r : Searched) (left : List ℕ) → SearchedBy P p lent r left →
     Demand3For (P .run) p lent r left

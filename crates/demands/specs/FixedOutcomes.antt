@@ -14,16 +14,15 @@ use Rattle.verdict.specs.declared.screen.Screened.the-variants as screened
 use Rattle.verdict.specs.Says.{Says}
 use Rattle.verdict.specs.Answers.{verdictAnswer, screenAnswer}
 use Rattle.demands.specs.Planner.{Planner}
-use Rattle.demands.specs.Calls.{Sized}
 
 pub record FixedOutcomes (P : Planner) : Type 0 where
   -- a well-formed plan and a mask that sets all its letters: the least schedule, or "none" where there is no schedule
   pub verdict :
-      (p : Plan) → Sized p → (m : ℕ) (r : Verdict) → verdictAnswer r ≡ P .fixes p m → WellFormed p → Setting (networkOf p) m → Says p m (r .found) (r .slots)
+      (p : Plan) (m : ℕ) (r : Verdict) → verdictAnswer r ≡ P .fixes p m → WellFormed p → Setting (networkOf p) m → Says p m (r .found) (r .slots)
   -- .. and one answer alone says so
   pub one-verdict : (p : Plan) (m : ℕ) (v w : Verdict) → Says p m (v .found) (v .slots) → Says p m (w .found) (w .slots) → v ≡ w
   -- a well-formed plan passes the screen exactly when every setting of all its letters has a schedule, and fails it exactly when one has none
   pub passes :
-      (p : Plan) → Sized p → (r : Screened) → screenAnswer r ≡ P .screens p → WellFormed p → (r ≡ screened.Passed) ↔ PassesScreen (networkOf p)
+      (p : Plan) (r : Screened) → screenAnswer r ≡ P .screens p → WellFormed p → (r ≡ screened.Passed) ↔ PassesScreen (networkOf p)
   pub fails :
-      (p : Plan) → Sized p → (r : Screened) → screenAnswer r ≡ P .screens p → WellFormed p → (r ≡ screened.Failed) ↔ (¬ PassesScreen (networkOf p))
+      (p : Plan) (r : Screened) → screenAnswer r ≡ P .screens p → WellFormed p → (r ≡ screened.Failed) ↔ (¬ PassesScreen (networkOf p))
