@@ -1,7 +1,7 @@
 -- Laws: a run that answers as another does, over one plan and one tree, at every history that has eight masks: what holds of the other's crews
 -- holds of its crews. Read the last two statements; only the checker need believe the proofs.
 use mathlib.Core.Path.{_≡_, refl, sym, ap, _∙_, subst}
-use mathlib.Core.List.{List, [], _∷_}
+use mathlib.Core.List.{List, [], _∷_, _++_}
 use Prim.Native.Nat.{ℕ}
 use lib.ListN.{length}
 use Rattle.plan.specs.declared.Plan.{Plan}
@@ -10,7 +10,7 @@ use Rattle.run.specs.declared.History.{History}
 use Rattle.run.specs.declared.Reported.{Reported}
 use Rattle.run.specs.declared.Shown.{Shown}
 use Rattle.run.specs.History.{emptyHistory}
-use Rattle.following.specs.Calls.{Run}
+use Rattle.following.specs.Calls.{Run, Call, showing, reporting, Progress, stepsOf, afterCall, afterCalls}
 use Rattle.demands.specs.Crews.{ShownBy, ReportedBy, Made, showed, reported, Answered, heldAfter, Crew, historyHeld}
 use Rattle.demands.specs.Demand3.{EveryCrew, EveryTwoCrews}
 
@@ -24,6 +24,35 @@ pub record Agrees (R S : Run) (p : Plan) (tree : List ℕ) : Type 0 where
   pub eight-back : (h : History) → Eight h → (o : ℕ) → Eight (S .reports p tree h o .value)
 
 module _ (R S : Run) (p : Plan) (tree : List ℕ) (agree : Agrees R S p tree) where
+  -- ---- lists of calls
+
+  one-call : (r : Progress) (call : Call) → Eight (r .history) → afterCall R p tree r call ≡ afterCall S p tree r call
+  unfolding afterCall
+  one-call r showing eight = refl
+  one-call r (reporting o) eight =
+      let shown = agree .shows (r .history) eight in
+      let back = agree .reports (r .history) eight o in
+      λ i. record { history = back i .value; steps = r .steps ++ stepsOf (shown i) o (back i .fault) }
+
+  one-eight : (r : Progress) (call : Call) → Eight (r .history) → Eight (afterCall S p tree r call .history)
+  unfolding afterCall
+  one-eight r showing eight = eight
+  one-eight r (reporting o) eight = agree .eight-back (r .history) eight o
+
+  pub calls-agree : (r : Progress) (calls : List Call) → Eight (r .history) → afterCalls R p tree r calls ≡ afterCalls S p tree r calls
+  unfolding afterCalls
+  calls-agree r [] eight = refl
+  calls-agree r (call ∷ calls) eight =
+      ap (λ (s : Progress). afterCalls R p tree s calls) (one-call r call eight)
+      ∙ calls-agree (afterCall S p tree r call) calls (one-eight r call eight)
+
+  pub calls-eight : (r : Progress) (calls : List Call) → Eight (r .history) → Eight (afterCalls S p tree r calls .history)
+  unfolding afterCalls
+  calls-eight r [] eight = eight
+  calls-eight r (call ∷ calls) eight = calls-eight (afterCall S p tree r call) calls (one-eight r call eight)
+
+  -- ---- crews
+
   module _ (h : History) (eight : Eight h) where
     shown-by : (s : Shown) → ShownBy R p tree h s → ShownBy S p tree h s
     shown-by s e = e ∙ agree .shows h eight
