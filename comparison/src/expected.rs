@@ -158,11 +158,11 @@ impl Library for Rules {
         Ok(told.len())
     }
 
-    /// The schedule, or eight zeros beside none and beside a refusal.
+    /// The schedule, or eight zeros beside none and beside every refusal, a short plan's 10 among them. A place that is
+    /// shorter than eight bytes stays as it was.
     fn least_schedule(&self, plan: &[u8], values: u8, schedule: &mut [u8]) -> Answer {
-        let plan = plan_record(plan)?;
         long_enough(schedule, SCHEDULE_BYTES)?;
-        let least = verdict(&plan, values);
+        let least = plan_record(plan).and_then(|plan| verdict(&plan, values));
         put(schedule, &least.unwrap_or(None).unwrap_or([0; 8]));
         least.map(|least| usize::from(least.is_some()))
     }

@@ -97,9 +97,8 @@ impl Library for Plain {
     }
 
     fn least_schedule(&self, plan: &[u8], values: u8, schedule: &mut [u8]) -> Answer {
-        let plan = plan_in(plan)?;
         let place = record_mut(schedule)?;
-        let least = least_schedule(&plan, values);
+        let least = plan_in(plan).and_then(|plan| least_schedule(&plan, values));
         *place = least.unwrap_or(None).unwrap_or([0; 8]);
         least.map(|least| usize::from(least.is_some()))
     }

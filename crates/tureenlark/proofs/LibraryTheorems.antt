@@ -1,19 +1,21 @@
 -- Theorems on the exported calls: results and refusals are told apart, a plan that was read crosses, a refused report leaves the history,
--- short records change nothing.
+-- short records change nothing, but for a schedule's place, which is all zero wherever it is there and no schedule is answered.
 -- A reader may read the statements; only the checker need believe the proofs.
 use mathlib.Core.Path.{_≡_, refl, sym, ap, _∙_}
 use mathlib.Core.Logic.{_↔_}
+use mathlib.Core.Bool.{false}
 use mathlib.Core.List.{List, _++_}
 use Prim.Native.Nat.{ℕ, _≤_, _<_}
 use native.Mathlib.Omega.{arith}
 use lib.Dec.{leb, eqb}
-use lib.ListN.{length, take, drop, take-append-drop}
+use lib.ListN.{length, take, drop, replicate, take-append-drop}
+use Rattle.network.specs.Mask.{digit}
 use Rattle.network.proofs.Booleans.{by-test, eqb-is, eqb-no, leb-is, differs}
 use Rattle.plan.specs.declared.Refusal.the-variants as refusal
 use Rattle.plan.specs.declared.Plan.{Plan}
 use Rattle.plan.specs.Plan.{listed}
 use Rattle.plan.specs.Faults.{unless, first, answered, filled}
-use Rattle.plan.proofs.AnswerLaws.{unless-is, first-none}
+use Rattle.plan.proofs.AnswerLaws.{unless-is, first-none, answered-zero}
 use Rattle.frame.specs.Texts.{roomFault}
 use Rattle.judge.specs.Judge.{planFault}
 use Rattle.judge.proofs.WellFormedLaws.{fine-exactly}
@@ -33,14 +35,18 @@ use Rattle.run.specs.declared.History.{History}
 use Rattle.run.proofs.RunTheorems.{refused-same}
 use Rattle.following.specs.declared.Followed.{Followed}
 use Rattle.following.specs.Following.{followedRecord}
+use Rattle.verdict.specs.Answers.{none, Fixed}
+use Rattle.verdict.specs.Verdict.{verdictFault, leastSchedule}
+use Rattle.verdict.proofs.AnswerLaws.{eight-answer}
 use Rattle.answer_text.specs.AnswerText.{answerText}
 use Rattle.answer_text.proofs.AnswerTextTheorems.{answer-fits}
 use Rattle.records.specs.Records.{planIn, planBytes, planLength, historyIn, historyBytes, historyLength}
 use Rattle.records.proofs.RecordsTheorems.{plan-bytes, plan-crosses, behind-ignored, history-bytes-cross}
 use Rattle.answers.specs.Numbers.{faultNumber, numbered}
 use Rattle.tureenlark.specs.Library.{planShort, historyShort, readPlanLeft, writePlanNumber, readTreeNumber, writeTreeNumber, followShort, followed, followNumber, searchNumber, searchLeft, reportShort, reportAt, reportNumber, reportLeft, answerFault, answerTextNumber}
+use Rattle.tureenlark.specs.Library.{shortFault, scheduleLength, unlessShort, slotsFor, leastScheduleNumber, leastScheduleLeft}
 use Rattle.tureenlark.proofs.FollowLaws.{steps-few}
-use Rattle.tureenlark.proofs.LibraryLaws.{short, long, number-short, left-short}
+use Rattle.tureenlark.proofs.LibraryLaws.{short, long, number-short, left-short, left-long}
 
 -- ---- A number below 7F00 is a result, one from there on a refusal and its number, whatever the call.
 
@@ -180,9 +186,46 @@ report-refused-same plan tree history mask not-one =
     ∙ kept historyLength (historyBytes (historyIn history)) history (nine history) (history-bytes-cross history enough))
     (λ z. short-kept f (historyBytes (a .value)) history (differs f 0 z))
 
--- ---- A record that is too short: 10, whatever else was handed in, and no byte changes (the plan's, for example).
+-- ---- A record that is too short: 10, whatever else was handed in, and no byte changes (the plan's, for example). A schedule's place beside a
+-- short plan is the exception: below.
 
 pub short-searched : (plan tree : List ℕ) → length plan < planLength → (searchNumber plan tree ≡ faultNumber 10) × (searchLeft plan tree ≡ tree)
 short-searched plan tree few =
     let e = short planLength plan few in
     (sym (number-short (planShort plan) _ _ e), sym (left-short (planShort plan) _ tree e))
+
+-- ---- A schedule's place that is there: where no schedule is answered, its eight bytes are zero. So beside "none" and under every refusal, 10
+-- for a short plan among them.
+
+no-slots :
+    (plan : List ℕ) (values : ℕ) (schedule : List ℕ) → shortFault scheduleLength schedule ≡ 0 → ¬ (leastScheduleNumber plan values schedule ≡ 1) →
+    slotsFor plan values ≡ replicate 8 0
+unfolding unlessShort numbered first leastSchedule
+no-slots plan values schedule there not-one =
+    let f = planShort plan in
+    let a = leastSchedule (planIn plan) values in
+    by-test (eqb f 0)
+    (λ y.
+    let whole = eqb-is f 0 y in
+    let unscheduled : a .value .scheduled ≡ false =
+    by-test (eqb (a .fault) 0)
+    (λ fine.
+    by-test (a .value .scheduled)
+    (λ yes. absurd (not-one (
+    ap (λ (n : ℕ). numbered (first (first n f) (a .fault)) (digit (a .value .scheduled))) there
+    ∙ ap (λ (n : ℕ). numbered (first n (a .fault)) (digit (a .value .scheduled))) whole
+    ∙ ap (λ (n : ℕ). numbered n (digit (a .value .scheduled))) (eqb-is (a .fault) 0 fine)
+    ∙ ap digit yes)))
+    (λ no. no))
+    (λ faulty. ap (λ (x : Fixed). x .scheduled) (answered-zero none (verdictFault (planIn plan) values) _ (differs (a .fault) 0 faulty))) in
+    sym (left-long f (a .value .slots) (none .slots) whole) ∙ eight-answer (planIn plan) values .zeros unscheduled)
+    (λ z. rw z)
+
+pub unscheduled-zero :
+    (plan : List ℕ) (values : ℕ) (schedule : List ℕ) → scheduleLength ≤ length schedule → ¬ (leastScheduleNumber plan values schedule ≡ 1) →
+    leastScheduleLeft plan values schedule ≡ replicate 8 0 ++ drop 8 schedule
+unfolding filled
+unscheduled-zero plan values schedule enough not-one =
+    let there = long scheduleLength schedule enough in
+    ap (λ (n : ℕ). filled n (slotsFor plan values) schedule) there
+    ∙ ap (λ (bs : List ℕ). filled 0 bs schedule) (no-slots plan values schedule there not-one)

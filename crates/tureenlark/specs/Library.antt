@@ -23,6 +23,7 @@ use Rattle.run.specs.Told.{Told}
 use Rattle.following.specs.Calls.{Progress, begun, afterCalls}
 use Rattle.following.specs.ThisRun.{theRun}
 use Rattle.following.specs.Following.{callsIn, zeroStep, followedRecord}
+use Rattle.verdict.specs.Answers.{none}
 use Rattle.verdict.specs.Verdict.{leastSchedule, screened}
 use Rattle.answer_text.specs.AnswerText.{answerText}
 use Rattle.records.specs.Records.{planIn, planBytes, planLength, historyIn, historyBytes, historyLength}
@@ -146,17 +147,20 @@ followSteps plan tree history calls steps =
 -- ---- Fixed outcomes and the screen.
 
 abbrev pub scheduleShort : List ℕ → List ℕ → ℕ
-scheduleShort plan schedule = first (planShort plan) (shortFault scheduleLength schedule)
+scheduleShort plan schedule = first (shortFault scheduleLength schedule) (planShort plan)
 
 abbrev pub leastScheduleNumber : List ℕ → ℕ → List ℕ → ℕ
 leastScheduleNumber plan values schedule =
     let a = leastSchedule (planIn plan) values in
     numbered (first (scheduleShort plan schedule) (a .fault)) (digit (a .value .scheduled))
 
--- beside "none", and where the plan or the letters are refused, the slots are all zero
+-- the eight slots: all zero beside "none", and where the record, the plan or the letters are refused
+abbrev pub slotsFor : List ℕ → ℕ → List ℕ
+slotsFor plan values = unlessShort (planShort plan) (leastSchedule (planIn plan) values .value .slots) (none .slots)
+
+-- They fill the schedule's place wherever it is there, under 10 for a short plan too; a place that is short stays as it was.
 abbrev pub leastScheduleLeft : List ℕ → ℕ → List ℕ → List ℕ
-leastScheduleLeft plan values schedule =
-    filled (scheduleShort plan schedule) (leastSchedule (planIn plan) values .value .slots) schedule
+leastScheduleLeft plan values schedule = filled (shortFault scheduleLength schedule) (slotsFor plan values) schedule
 
 abbrev pub screenNumber : List ℕ → ℕ
 screenNumber plan = let a = screened (planIn plan) in numbered (first (planShort plan) (a .fault)) (digit (a .value))

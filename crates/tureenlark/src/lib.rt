@@ -179,15 +179,17 @@ pub extern "C" fn tureenlark_follow(
 }
 
 // 1, and the least schedule where the letters of `values` are true and the others false; 0 for none; or refused with 2, 3, 4, 8.
+// With 0 and with any refusal, 10 for a short plan too, the schedule's eight bytes are zero; where it has fewer, no byte changes.
 #[no_mangle]
 pub extern "C" fn tureenlark_least_schedule(plan: &[u8], values: u8, schedule: &mut [u8]) -> usize
     ensures answer { λ r. ⌜ r ≡ leastScheduleNumber (now (plan .entry)) values (now (schedule .entry)) ⌝ }
     ensures buffer { λ r. ⌜ now (schedule .exit) ≡ leastScheduleLeft (now (plan .entry)) values (now (schedule .entry)) ⌝ }
 {
-    if plan.len() < plan_record::LENGTH {
+    if schedule.len() < SCHEDULE {
         return numbers::refused(Refusal::Buffer);
     }
-    if schedule.len() < SCHEDULE {
+    if plan.len() < plan_record::LENGTH {
+        storing::put_bytes(schedule, 0, &[0; SCHEDULE]);
         return numbers::refused(Refusal::Buffer);
     }
     let verdict = verdict::least_schedule(plan_record::plan_in(plan), values);
