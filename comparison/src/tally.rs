@@ -2,7 +2,7 @@
 
 use crate::expected::*;
 use crate::library::{Answer, Case};
-use reference::plan::{Plan, AFTER_DONE, HOPELESS, MASK, SHAPE};
+use reference::plan::{Plan, AFTER_DONE, BUFFER, HOPELESS, MASK, SHAPE};
 use reference::search::program;
 use reference::text::{read_plan, write_plan, write_tree, TREE_BYTES};
 use reference::verdict::tiny;
@@ -109,7 +109,7 @@ fn lengths(case: &Case, expected: &Expected) -> Vec<String> {
     labels
 }
 
-/// Further distinctions: sizes of trees, ways to 8 and 9.
+/// Further distinctions: sizes of trees, ways to 8 and 9, places beside short records.
 fn details(case: &Case, expected: &Expected) -> Option<String> {
     match (case, expected.answer) {
         (Case::ReadTree { .. }, Ok(nodes)) => Some(size(nodes)),
@@ -117,6 +117,9 @@ fn details(case: &Case, expected: &Expected) -> Option<String> {
         (Case::CheckTree { tree, .. } | Case::WriteTree { tree, .. }, Err(SHAPE)) => Some(odd_length(tree)),
         (Case::LeastSchedule { plan, .. } | Case::Screen { plan }, Ok(_)) if tiny(&Plan::from_bytes(plan)) => {
             Some("by enumeration".into())
+        }
+        (Case::LeastSchedule { plan, schedule, .. }, Err(BUFFER)) if plan.len() < PLAN_BYTES => {
+            Some(place_beside_short(schedule))
         }
         (Case::Show { history, .. }, Err(MASK)) => Some(way_to_8(history)),
         (Case::Report { history, .. }, Err(MASK)) => Some(way_to_8(history)),
@@ -128,6 +131,16 @@ fn details(case: &Case, expected: &Expected) -> Option<String> {
         (Case::Answer { input, .. }, Ok(_)) if longest_and_more(input) => Some("longest plan and more".into()),
         _ => None,
     }
+}
+
+/// Of a schedule's place beside a short plan: whether it is there, and whether zeros can be told from what stood there.
+fn place_beside_short(schedule: &[u8]) -> String {
+    let word = match schedule.first_chunk::<SCHEDULE_BYTES>() {
+        None => "no place",
+        Some([0, 0, 0, 0, 0, 0, 0, 0]) => "zeros before",
+        Some(_) => "zeros anew",
+    };
+    format!("10, plan short: {word}")
 }
 
 fn longest_and_more(input: &[u8]) -> bool {

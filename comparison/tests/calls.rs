@@ -264,6 +264,8 @@ const LEAST_SCHEDULE: Call = Call {
         ("4", 300),
         ("8", 1000),
         ("10", 700),
+        ("10, plan short: zeros anew", 150),
+        ("10, plan short: no place", 5),
         ("schedule longer, 8", 300),
         ("by enumeration", 1000),
     ],

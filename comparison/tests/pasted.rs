@@ -37,3 +37,13 @@ fn a_history_cut() {
         &hex("00A5A5A5"),
     );
 }
+
+/// A plan cut short is 10: the schedule's eight bytes are zero where they are there, and fewer bytes stay.
+#[test]
+fn a_plan_cut() {
+    for (length, place) in [399, 0].into_iter().flat_map(|length| [(length, 8), (length, 20), (length, 7), (length, 0)])
+    {
+        let plan = k(4).to_bytes()[..length].to_vec();
+        compare(&Case::LeastSchedule { plan, values: 0, schedule: vec![0xEE; place] });
+    }
+}
