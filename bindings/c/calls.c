@@ -230,6 +230,11 @@ static int least_schedule(void)
     memset(schedule, 0xEE, sizeof schedule);
     CHECK(tureenlark_least_schedule(BUFFER(plan), 0, BUFFER(schedule)) == 0);
     CHECK(all(schedule, 0, sizeof schedule, 0));
+    memset(schedule, 0xEE, sizeof schedule);
+    CHECK(tureenlark_least_schedule(BUFFER(plan), 0, schedule, 7) == refused(TUREENLARK_BUFFER)); /* there is no place */
+    CHECK(all(schedule, 0, sizeof schedule, 0xEE));
+    CHECK(tureenlark_least_schedule(plan, 399, 0, BUFFER(schedule)) == refused(TUREENLARK_BUFFER)); /* there is one */
+    CHECK(all(schedule, 0, sizeof schedule, 0));
     return 0;
 }
 

@@ -7,7 +7,8 @@
  * A buffer that is not const must overlap no other. Only the bytes that a call names change.
  *
  * Records are bytes: a plan 400, a history 9, an instruction 3, a schedule 8, steps 32. Any call with a buffer that is shorter than its
- * record is refused with 10 before anything else is looked at, and no byte changes; bytes behind a record are neither read nor changed.
+ * record is refused with 10 before anything else is looked at, and no byte changes, save a schedule's eight where only the plan is short:
+ * they are zero then. Bytes behind a record are neither read nor changed.
  * A tree that is handed in has just its nodes' bytes: its length is three times the number of nodes, not that of the buffer it stands in.
  */
 #ifndef TUREENLARK_H
@@ -50,7 +51,8 @@ enum tureenlark_refusal {
 /* 1 where the record is a well-formed plan; or refused with 2, 3, 4. */
 size_t tureenlark_judge_plan(const uint8_t *plan, size_t plan_length);
 
-/* 1, and the first 400 bytes of `plan` are the record that the text says; or refused with 1, 2, 3, 4, and they are zero. */
+/* 1, and the first 400 bytes of `plan` are the record that the text says; or refused with 1, 2, 3, 4, and they are zero. Where `plan` has
+ * fewer, no byte changes. */
 size_t tureenlark_read_plan(const uint8_t *text, size_t text_length, uint8_t *plan, size_t plan_length);
 
 /* The length of the plan's text, which is put at the front of `text`; or refused with 2, 3, 4, 10 (fewer bytes than the text has), and no
@@ -91,7 +93,8 @@ size_t tureenlark_follow(const uint8_t *plan, size_t plan_length, const uint8_t 
                          uint8_t *steps, size_t steps_length);
 
 /* 1, and the first eight bytes of `schedule` are the least slots where the letters of `values` are true and the others false; 0 where
- * there is no schedule; or refused with 2, 3, 4, 8. With 0 and with these refusals the eight bytes are zero. */
+ * there is no schedule; or refused with 2, 3, 4, 8. With 0 and with every refusal, 10 for a short plan too, the eight bytes are zero; where
+ * `schedule` has fewer, no byte changes. */
 size_t tureenlark_least_schedule(const uint8_t *plan, size_t plan_length, uint8_t values, uint8_t *schedule,
                                  size_t schedule_length);
 

@@ -3,8 +3,9 @@
 //!
 //! Records are bytes, as docs/LIBRARY.md lays them out: a plan is [`PLAN_BYTES`] long, a history [`HISTORY_BYTES`], an
 //! instruction [`INSTRUCTION_BYTES`], a schedule [`SCHEDULE_BYTES`], steps [`STEPS_BYTES`]. A slice that is shorter
-//! than its record is refused with [`Refusal::Buffer`] before anything else is looked at; bytes behind a record are
-//! neither read nor changed. Only the bytes that a call names change.
+//! than its record is refused with [`Refusal::Buffer`] before anything else is looked at, and no byte changes, save a
+//! schedule's eight where only the plan is short: they are zero then. Bytes behind a record are neither read nor
+//! changed. Only the bytes that a call names change.
 //!
 //! From a plan's text to a crew that is done:
 //!
@@ -458,8 +459,8 @@ pub fn follow(plan: &[u8], tree: &[u8], history: &mut [u8], calls: &[u8], steps:
 }
 
 /// Where the letters of `values` are true and the others false: `true`, and the first eight bytes of `schedule` are the
-/// least slots, or `false` where there is no schedule. Refused with 10, 2, 3, 4 or 8. Beside `false` and 2, 3, 4 and 8
-/// the eight bytes are zero.
+/// least slots, or `false` where there is no schedule. Refused with 10, 2, 3, 4 or 8. Beside `false` and every refusal,
+/// 10 for a short plan too, the eight bytes are zero; where `schedule` has fewer, no byte changes.
 ///
 /// ```
 /// use tureenlark::*;
@@ -473,6 +474,11 @@ pub fn follow(plan: &[u8], tree: &[u8], history: &mut [u8], calls: &[u8], steps:
 /// assert_eq!(least_schedule(&plan, 0, &mut schedule), Ok(false));
 /// assert_eq!(schedule, [0; SCHEDULE_BYTES]);
 /// assert_eq!(least_schedule(&plan, 2, &mut schedule), Err(Refusal::Mask)); // there is no letter 1
+/// schedule.fill(0xEE);
+/// assert_eq!(least_schedule(&plan, 0, &mut schedule[..7]), Err(Refusal::Buffer)); // there is no place
+/// assert_eq!(schedule, [0xEE; SCHEDULE_BYTES]);
+/// assert_eq!(least_schedule(&plan[..399], 0, &mut schedule), Err(Refusal::Buffer)); // there is one
+/// assert_eq!(schedule, [0; SCHEDULE_BYTES]);
 /// # Ok::<(), Refusal>(())
 /// ```
 pub fn least_schedule(plan: &[u8], values: u8, schedule: &mut [u8]) -> Result<bool, Refusal> {
