@@ -1,4 +1,5 @@
 -- Laws: the modules of this folder. Only the checker need believe them; LibraryTheorems.antt has statements to read.
 pub mod LibraryLaws
+pub mod DecodeLaws
 pub mod FollowLaws
 pub mod LibraryTheorems
