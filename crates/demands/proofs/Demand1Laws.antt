@@ -34,11 +34,11 @@ use Rattle.demands.specs.Calls.{OneOf, Fills}
 -- ---- one of some numbers
 
 -- the tests: whether a number is among some, and whether all of ms are
-abbrev among : List ℕ → ℕ → Bool
+abbrev pub among : List ℕ → ℕ → Bool
 among [] n = false
 among (m ∷ ms) n = eqb n m || among ms n
 
-abbrev allAmong : List ℕ → List ℕ → Bool
+abbrev pub allAmong : List ℕ → List ℕ → Bool
 allAmong ks [] = true
 allAmong ks (m ∷ ms) = among ks m && allAmong ks ms
 

@@ -77,7 +77,7 @@ is-refused f v n some e = number-refused f v (λ z. some (sym e ∙ z)) ∙ ap (
 
 -- ---- the numbers that a call can answer
 
-some-of : (numbers : List ℕ) (f : ℕ) → OneOf (0 ∷ numbers) f → ¬ (f ≡ 0) → OneOf numbers f
+pub some-of : (numbers : List ℕ) (f : ℕ) → OneOf (0 ∷ numbers) f → ¬ (f ≡ 0) → OneOf numbers f
 unfolding OneOf
 some-of numbers f (inl e) some = absurd (some e)
 some-of numbers f (inr h) some = h

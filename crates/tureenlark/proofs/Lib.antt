@@ -1,5 +1,6 @@
 -- Laws: the modules of this folder. Only the checker need believe them; LibraryTheorems.antt has statements to read.
 pub mod LibraryLaws
 pub mod DecodeLaws
+pub mod RangeLaws
 pub mod FollowLaws
 pub mod LibraryTheorems

@@ -1,0 +1,199 @@
+-- Laws: the numbers that each exported call can answer, and short records. Only the checker need believe this file; specs/LibraryDemands.antt
+-- has the statements.
+use mathlib.Core.Path.{_≡_, refl, sym, ap, _∙_}
+use mathlib.Core.Logic.{_⊎_, inl, inr, ⊎-elim}
+use mathlib.Core.Bool.{Bool, true, false, cond}
+use mathlib.Core.List.{List, [], _∷_, _++_}
+use Prim.Native.Nat.{ℕ, _+_, _*_, _≤_, _<_}
+use native.Mathlib.Omega.{arith}
+use lib.Dec.{leb, eqb}
+use lib.ListN.{length, drop, replicate}
+use Rattle.network.specs.Mask.{digit}
+use Rattle.network.proofs.Booleans.{by-test, eqb-is, differs}
+use Rattle.plan.specs.declared.Plan.{Plan}
+use Rattle.plan.specs.declared.Refusal.the-variants as refusal
+use Rattle.plan.specs.Faults.{unless, first, answered, filled}
+use Rattle.plan.proofs.AnswerLaws.{first-none, unless-is}
+use Rattle.plan.specs.Plan.{listed}
+use Rattle.judge.specs.Judge.{planFault}
+use Rattle.judge.proofs.JudgeTheorems.{fine-exactly}
+use Rattle.frame.specs.Texts.{roomFault}
+use Rattle.tree.specs.Nodes.{legalLength}
+use Rattle.tree.proofs.NodeLaws.{legal-is}
+use Rattle.plan_text.specs.PlanText.{planText}
+use Rattle.plan_text.specs.ReadPlan.{readPlan}
+use Rattle.plan_text.specs.WritePlan.{writePlan}
+use Rattle.plan_text.proofs.LengthLaws.{plan-length}
+use Rattle.plan_text.proofs.PlanTextTheorems.{at-most-1025}
+use Rattle.tree_text.specs.TreeText.{treeText}
+use Rattle.tree_text.specs.ReadTree.{readTree}
+use Rattle.tree_text.specs.WriteTree.{writeTree}
+use Rattle.tree_text.proofs.TreeTextLaws.{text-length}
+use Rattle.checker.specs.Checker.{checkFault}
+use Rattle.search.specs.Search.{searchFault, searchAnswer}
+use Rattle.search.proofs.SearchTheorems.{fault-is, count-bounds}
+use Rattle.run.specs.Run.{showAnswer, reportAnswer}
+use Rattle.following.specs.declared.Followed.{Followed}
+use Rattle.verdict.specs.Verdict.{leastSchedule, screened}
+use Rattle.answer_text.specs.AnswerText.{answerText}
+use Rattle.answer_text.proofs.AnswerTextTheorems.{answer-fits}
+use Rattle.demands.specs.Calls.{OneOf}
+use Rattle.demands.proofs.Demand1Laws.{allAmong, one-of, one-of-more, first-one, unless-one, by-plan, plan-one, write-one, crewNumbers}
+use Rattle.demands.proofs.Demand1Theorem.{demand1, show-numbered, reports-one, search-one}
+use Rattle.records.specs.Records.{planIn, planLength, historyIn, historyLength}
+use Rattle.answers.specs.Numbers.{faultNumber, toldNumber}
+use Rattle.tureenlark.specs.Library.{shortFault, planShort, instructionLength, stepsLength, scheduleLength, judgePlanNumber, readPlanNumber, writePlanNumber, readTreeNumber}
+use Rattle.tureenlark.specs.Library.{writeTreeNumber, checkTreeNumber, searchNumber, showShort, toldAt, showNumber, reportShort, reportAt}
+use Rattle.tureenlark.specs.Library.{reportNumber, followShort, followed, followNumber, scheduleShort, leastScheduleNumber, screenNumber}
+use Rattle.tureenlark.specs.Library.{answerFault, answerTextNumber}
+use Rattle.tureenlark.specs.LibraryDemands.{Answers}
+use Rattle.tureenlark.proofs.DecodeLaws.{some-of, answers-of, told-numbers}
+
+-- a short record is 10
+short-one : (ms : List ℕ) (n : ℕ) (bs : List ℕ) → (allAmong ms (0 ∷ 10 ∷ []) ≡ true) → OneOf ms (shortFault n bs)
+short-one ms n bs t = unless-one ms (leb n (length bs)) refusal.Buffer t
+
+module _ (plan : List ℕ) where
+  abbrev p : Plan
+  p = planIn plan
+
+  pub judge-range : Answers 1 1 (2 ∷ 3 ∷ 4 ∷ 10 ∷ []) (judgePlanNumber plan)
+  judge-range =
+      answers-of 1 1 _ (first (planShort plan) (planFault p)) 1 (λ e. (omega arith, omega arith))
+      (first-one _ _ _ (short-one _ planLength plan refl) (plan-one _ refl p))
+
+  pub read-plan-range : (text : List ℕ) → Answers 1 1 (1 ∷ 2 ∷ 3 ∷ 4 ∷ 10 ∷ []) (readPlanNumber text plan)
+  read-plan-range text =
+      answers-of 1 1 _ (first (planShort plan) (readPlan text .fault)) 1 (λ e. (omega arith, omega arith))
+      (first-one _ _ _ (short-one _ planLength plan refl) (one-of-more _ _ _ refl (demand1 .read-plan text .numbers)))
+
+  pub write-plan-range : (text : List ℕ) → Answers 11 1025 (2 ∷ 3 ∷ 4 ∷ 10 ∷ []) (writePlanNumber plan text)
+  unfolding writePlan
+  write-plan-range text =
+      let a = writePlan p text in
+      answers-of 11 1025 _ (first (planShort plan) (a .fault)) (a .value)
+      (λ e. let none = first-none (planShort plan) (a .fault) e .1 in
+      let counted = demand1 .write-plan p text .counted none in
+      let long = plan-length p in
+      by-plan p
+      (λ wf. let most = at-most-1025 p wf in (omega (arith, counted, long), omega (arith, counted, most)))
+      (λ n h. absurd (n (demand1 .write-plan p text .judged n .fine .0 none))))
+      (first-one _ _ _ (short-one _ planLength plan refl) (write-one (planFault p) (planText p) text _ refl (plan-one _ refl p)))
+
+  pub check-range : (tree : List ℕ) → Answers 1 1 (2 ∷ 3 ∷ 4 ∷ 6 ∷ 7 ∷ 10 ∷ []) (checkTreeNumber plan tree)
+  check-range tree =
+      answers-of 1 1 _ (first (planShort plan) (checkFault p tree)) 1 (λ e. (omega arith, omega arith))
+      (first-one _ _ _ (short-one _ planLength plan refl)
+      (by-plan p
+      (λ wf. one-of-more _ _ _ refl (demand1 .check p tree .numbers wf))
+      (λ n h. one-of-more _ _ _ refl (demand1 .check p tree .judged n .numbers))))
+
+  pub search-range : (tree : List ℕ) → Answers 1 191 (2 ∷ 3 ∷ 4 ∷ 10 ∷ 11 ∷ []) (searchNumber plan tree)
+  search-range tree =
+      let a = searchAnswer p tree in
+      answers-of 1 191 _ (first (planShort plan) (a .fault)) (a .value)
+      (λ e. count-bounds p tree (sym (fault-is p tree) ∙ first-none (planShort plan) (a .fault) e .1))
+      (first-one _ _ _ (short-one _ planLength plan refl) (one-of-more _ _ _ refl (search-one p tree)))
+
+pub read-tree-range : (text tree : List ℕ) → Answers 1 191 (5 ∷ 10 ∷ []) (readTreeNumber text tree)
+read-tree-range text tree =
+    let a = readTree text tree in
+    answers-of 1 191 _ (a .fault) (a .value)
+    (λ e. let (bs, says, three, fills) = demand1 .read-tree text tree .read e in
+    let legal = legal-is (length bs) (says .legal) in
+    (omega arith, omega arith))
+    (demand1 .read-tree text tree .numbers)
+
+pub write-tree-range : (tree text : List ℕ) → Answers 14 1724 (6 ∷ 10 ∷ []) (writeTreeNumber tree text)
+write-tree-range tree text =
+    let a = writeTree tree text in
+    let so = demand1 .write-tree tree text in
+    answers-of 14 1724 _ (a .fault) (a .value)
+    (λ e. let counted = so .counted e in
+    let long = text-length tree in
+    by-test (legalLength (length tree))
+    (λ y. let legal = legal-is (length tree) y in (omega (arith, counted, long, legal .threes, legal .some), omega (arith, counted, long, legal .threes, legal .most)))
+    (λ z. let six = so .shape .1 z in absurd (omega (arith, six, e))))
+    (so .numbers)
+
+-- ---- the crew's run
+
+-- one of more numbers
+answers-more :
+    (low high : ℕ) (ks ms : List ℕ) (n : ℕ) → allAmong ks ms ≡ true → Answers low high ms n → Answers low high ks n
+answers-more low high ks ms n t (inl r) = inl r
+answers-more low high ks ms n t (inr (k, one, e)) = inr (k, one-of-more ks ms k t one, e)
+
+-- a number that is told unless a record is short
+abbrev withTen : List ℕ
+withTen = 2 ∷ 3 ∷ 4 ∷ 6 ∷ 7 ∷ 8 ∷ 9 ∷ 10 ∷ []
+
+told-range :
+    (f n : ℕ) → OneOf (0 ∷ 10 ∷ []) f → Answers 0 1 crewNumbers n → Answers 0 1 withTen (cond (eqb f 0) n (faultNumber f))
+told-range f n one told =
+    by-test (eqb f 0)
+    (λ y. rw y (answers-more 0 1 withTen crewNumbers n refl told))
+    (λ z. rw z (inr (f, one-of-more withTen (10 ∷ []) f refl (some-of (10 ∷ []) f one (differs f 0 z)), refl)))
+
+pub show-range :
+    (plan tree history instruction : List ℕ) →
+    Answers 0 1 (2 ∷ 3 ∷ 4 ∷ 6 ∷ 7 ∷ 8 ∷ 9 ∷ 10 ∷ []) (showNumber plan tree history instruction)
+show-range plan tree history instruction =
+    told-range (showShort plan history instruction) (toldNumber (toldAt plan tree history))
+    (first-one _ _ _ (short-one _ planLength plan refl)
+    (first-one _ _ _ (short-one _ historyLength history refl) (short-one _ instructionLength instruction refl)))
+    (told-numbers (toldAt plan tree history) (show-numbered (planIn plan) tree (historyIn history)))
+
+pub report-range :
+    (plan tree history : List ℕ) (mask : ℕ) →
+    Answers 1 1 (2 ∷ 3 ∷ 4 ∷ 6 ∷ 7 ∷ 8 ∷ 9 ∷ 10 ∷ []) (reportNumber plan tree history mask)
+report-range plan tree history mask =
+    answers-of 1 1 _ (first (reportShort plan history) (reportAt plan tree history mask .fault)) 1 (λ e. (omega arith, omega arith))
+    (first-one _ _ _ (first-one _ _ _ (short-one _ planLength plan refl) (short-one _ historyLength history refl))
+    (one-of-more _ _ _ refl (reports-one (planIn plan) tree (historyIn history) mask)))
+
+-- a history that is read has eight masks
+pub eight-in : (bs : List ℕ) → length (historyIn bs .masks) ≡ 8
+unfolding listed
+eight-in bs = refl
+
+pub follow-range : (plan tree history calls steps : List ℕ) → Answers 0 8 (10 ∷ []) (followNumber plan tree history calls steps)
+follow-range plan tree history calls steps =
+    let few = demand1 .follow-few (planIn plan) tree (historyIn history) calls (eight-in history) in
+    answers-of 0 8 _ (followShort plan history steps) (length (followed plan tree history calls .steps)) (λ e. (omega arith, few))
+    (first-one _ _ _ (short-one _ planLength plan refl)
+    (first-one _ _ _ (short-one _ historyLength history refl) (short-one _ stepsLength steps refl)))
+
+-- ---- fixed outcomes, the screen, the program
+
+digit-most : (b : Bool) → (0 ≤ digit b) × (digit b ≤ 1)
+digit-most true = (omega arith, omega arith)
+digit-most false = (omega arith, omega arith)
+
+pub least-schedule-range :
+    (plan : List ℕ) (values : ℕ) (schedule : List ℕ) → Answers 0 1 (2 ∷ 3 ∷ 4 ∷ 8 ∷ 10 ∷ []) (leastScheduleNumber plan values schedule)
+least-schedule-range plan values schedule =
+    let a = leastSchedule (planIn plan) values in
+    let so = demand1 .verdict (planIn plan) values in
+    answers-of 0 1 _ (first (scheduleShort plan schedule) (a .fault)) (digit (a .value .scheduled)) (λ e. digit-most (a .value .scheduled))
+    (first-one _ _ _ (first-one _ _ _ (short-one _ scheduleLength schedule refl) (short-one _ planLength plan refl))
+    (by-plan (planIn plan)
+    (λ wf. one-of-more _ _ _ refl (so .numbers wf))
+    (λ n h. one-of-more _ _ _ refl (so .judged n .numbers))))
+
+pub screen-range : (plan : List ℕ) → Answers 0 1 (2 ∷ 3 ∷ 4 ∷ 10 ∷ []) (screenNumber plan)
+screen-range plan =
+    let a = screened (planIn plan) in
+    answers-of 0 1 _ (first (planShort plan) (a .fault)) (digit (a .value)) (λ e. digit-most (a .value))
+    (first-one _ _ _ (short-one _ planLength plan refl) (one-of-more _ _ _ refl (demand1 .screen (planIn plan) .numbers)))
+
+pub answer-range : (input text : List ℕ) → Answers 5 1724 (10 ∷ []) (answerTextNumber input text)
+answer-range input text =
+    let fits = answer-fits input in
+    let some : 5 ≤ length (answerText input) =
+    ⊎-elim
+    (λ (bs, legal, e). let long = ap length e in let all = text-length bs in omega arith)
+    (λ (n, one, e). let long = ap length e in omega arith)
+    (demand1 .program input .one-of-these) in
+    answers-of 5 1724 _ (answerFault input text) (length (answerText input)) (λ e. (some, fits))
+    (unless-one _ (leb (length (answerText input)) (length text)) refusal.Buffer refl)
