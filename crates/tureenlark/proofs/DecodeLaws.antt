@@ -51,12 +51,20 @@ fault-in f v small =
     (λ y. let e = eqb-is f 0 y in ap faultIn (number-fine f v e) ∙ ap (λ (a : Answer ℕ). a .fault) (fine-in v small) ∙ sym e)
     (λ z. ap faultIn (number-refused f v (differs f 0 z)) ∙ ap (λ (a : Answer ℕ). a .fault) (refused-in f))
 
--- an answer whose value is small, and 0 beside a fault
-pub answer-in : (a : Answer ℕ) → a .value < refusals → (¬ (a .fault ≡ 0) → a .value ≡ 0) → answerIn (answerNumber a) ≡ a
-answer-in a small zero-beside =
+-- an answer whose value is small where there is no fault, and 0 beside one
+pub small-value : (a : Answer ℕ) → (a .fault ≡ 0 → a .value ≤ 1724) → (¬ (a .fault ≡ 0) → a .value ≡ 0) → a .value < refusals
+small-value a most zero-beside =
+    by-test (eqb (a .fault) 0)
+    (λ y. let le = most (eqb-is (a .fault) 0 y) in omega arith)
+    (λ z. let e = zero-beside (differs (a .fault) 0 z) in omega arith)
+
+pub answer-in :
+    (a : Answer ℕ) → (a .fault ≡ 0 → a .value ≤ 1724) → (¬ (a .fault ≡ 0) → a .value ≡ 0) → answerIn (answerNumber a) ≡ a
+answer-in a most zero-beside =
     by-test (eqb (a .fault) 0)
     (λ y. let e = eqb-is (a .fault) 0 y in
-    ap answerIn (number-fine (a .fault) (a .value) e) ∙ fine-in (a .value) small ∙ (λ i. record { fault = sym e i; value = a .value }))
+    ap answerIn (number-fine (a .fault) (a .value) e) ∙ fine-in (a .value) (small-value a most zero-beside)
+    ∙ (λ i. record { fault = sym e i; value = a .value }))
     (λ z. let some = differs (a .fault) 0 z in
     let none = sym (zero-beside some) in
     ap answerIn (number-refused (a .fault) (a .value) some) ∙ refused-in (a .fault) ∙ (λ i. record { fault = a .fault; value = none i }))
@@ -67,6 +75,9 @@ one-is f e = sym (fault-in f 1 (omega arith)) ∙ ap faultIn e
 
 pub is-one : (f : ℕ) → f ≡ 0 → numbered f 1 ≡ 1
 is-one f e = number-fine f 1 e
+
+pub is-result : (v : ℕ) → numbered 0 v ≡ v
+is-result v = number-fine 0 v refl
 
 -- a refusal's number
 pub refused-is : (f v n : ℕ) → v < refusals → numbered f v ≡ refusals + n → f ≡ n

@@ -4,3 +4,4 @@ pub mod DecodeLaws
 pub mod RangeLaws
 pub mod FollowLaws
 pub mod LibraryTheorems
+pub mod PlanCallLaws

@@ -53,6 +53,35 @@ use Rattle.tureenlark.proofs.DecodeLaws.{some-of, answers-of, told-numb
 short-one : (ms : List ℕ) (n : ℕ) (bs : List ℕ) → (allAmong ms (0 ∷ 10 ∷ []) ≡ true) → OneOf ms (shortFault n bs)
 short-one ms n bs t = unless-one ms (leb n (length bs)) refusal.Buffer t
 
+-- what is counted, where there is no fault
+pub plan-written-most : (p : Plan) (text : List ℕ) → writePlan p text .fault ≡ 0 → (11 ≤ writePlan p text .value) × (writePlan p text .value ≤ 1025)
+plan-written-most p text none =
+    let counted = demand1 .write-plan p text .counted none in
+    let long = plan-length p in
+    by-plan p
+    (λ wf. let most = at-most-1025 p wf in (omega (arith, counted, long), omega (arith, counted, most)))
+    (λ n h. absurd (n (demand1 .write-plan p text .judged n .fine .0 none)))
+
+pub tree-read-most : (text tree : List ℕ) → readTree text tree .fault ≡ 0 → (1 ≤ readTree text tree .value) × (readTree text tree .value ≤ 191)
+tree-read-most text tree e =
+    let (bs, says, three, fills) = demand1 .read-tree text tree .read e in
+    let legal = legal-is (length bs) (says .legal) in
+    (omega arith, omega arith)
+
+pub tree-written-most :
+    (tree text : List ℕ) → writeTree tree text .fault ≡ 0 → (14 ≤ writeTree tree text .value) × (writeTree tree text .value ≤ 1724)
+tree-written-most tree text e =
+    let so = demand1 .write-tree tree text in
+    let counted = so .counted e in
+    let long = text-length tree in
+    by-test (legalLength (length tree))
+    (λ y. let legal = legal-is (length tree) y in
+    (omega (arith, counted, long, legal .threes, legal .some), omega (arith, counted, long, legal .threes, legal .most)))
+    (λ z. let six = so .shape .1 z in absurd (omega (arith, six, e)))
+
+pub searched-most : (p : Plan) (tree : List ℕ) → searchAnswer p tree .fault ≡ 0 → (1 ≤ searchAnswer p tree .value) × (searchAnswer p tree .value ≤ 191)
+searched-most p tree e = count-bounds p tree (sym (fault-is p tree) ∙ e)
+
 module _ (plan : List ℕ) where
   abbrev p : Plan
   p = planIn plan
@@ -72,12 +101,7 @@ module _ (plan : List ℕ) where
   write-plan-range text =
       let a = writePlan p text in
       answers-of 11 1025 _ (first (planShort plan) (a .fault)) (a .value)
-      (λ e. let none = first-none (planShort plan) (a .fault) e .1 in
-      let counted = demand1 .write-plan p text .counted none in
-      let long = plan-length p in
-      by-plan p
-      (λ wf. let most = at-most-1025 p wf in (omega (arith, counted, long), omega (arith, counted, most)))
-      (λ n h. absurd (n (demand1 .write-plan p text .judged n .fine .0 none))))
+      (λ e. plan-written-most p text (first-none (planShort plan) (a .fault) e .1))
       (first-one _ _ _ (short-one _ planLength plan refl) (write-one (planFault p) (planText p) text _ refl (plan-one _ refl p)))
 
   pub check-range : (tree : List ℕ) → Answers 1 1 (2 ∷ 3 ∷ 4 ∷ 6 ∷ 7 ∷ 10 ∷ []) (checkTreeNumber plan tree)
@@ -92,29 +116,19 @@ module _ (plan : List ℕ) where
   search-range tree =
       let a = searchAnswer p tree in
       answers-of 1 191 _ (first (planShort plan) (a .fault)) (a .value)
-      (λ e. count-bounds p tree (sym (fault-is p tree) ∙ first-none (planShort plan) (a .fault) e .1))
+      (λ e. searched-most p tree (first-none (planShort plan) (a .fault) e .1))
       (first-one _ _ _ (short-one _ planLength plan refl) (one-of-more _ _ _ refl (search-one p tree)))
 
 pub read-tree-range : (text tree : List ℕ) → Answers 1 191 (5 ∷ 10 ∷ []) (readTreeNumber text tree)
 read-tree-range text tree =
     let a = readTree text tree in
     answers-of 1 191 _ (a .fault) (a .value)
-    (λ e. let (bs, says, three, fills) = demand1 .read-tree text tree .read e in
-    let legal = legal-is (length bs) (says .legal) in
-    (omega arith, omega arith))
-    (demand1 .read-tree text tree .numbers)
+    (tree-read-most text tree) (demand1 .read-tree text tree .numbers)
 
 pub write-tree-range : (tree text : List ℕ) → Answers 14 1724 (6 ∷ 10 ∷ []) (writeTreeNumber tree text)
 write-tree-range tree text =
     let a = writeTree tree text in
-    let so = demand1 .write-tree tree text in
-    answers-of 14 1724 _ (a .fault) (a .value)
-    (λ e. let counted = so .counted e in
-    let long = text-length tree in
-    by-test (legalLength (length tree))
-    (λ y. let legal = legal-is (length tree) y in (omega (arith, counted, long, legal .threes, legal .some), omega (arith, counted, long, legal .threes, legal .most)))
-    (λ z. let six = so .shape .1 z in absurd (omega (arith, six, e))))
-    (so .numbers)
+    answers-of 14 1724 _ (a .fault) (a .value) (tree-written-most tree text) (demand1 .write-tree tree text .numbers)
 
 -- ---- the crew's run
 

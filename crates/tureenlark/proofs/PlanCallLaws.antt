@@ -1,0 +1,176 @@
+-- Laws: the exported calls of plans, trees and the search, over records that are long enough. Only the checker need believe this file;
+-- specs/LibraryDemands.antt has the statements.
+use mathlib.Core.Path.{_≡_, refl, sym, ap, _∙_, subst}
+use mathlib.Core.Logic.{_↔_, by-cases}
+use mathlib.Core.List.{List, [], _∷_, _++_}
+use Prim.Native.Nat.{ℕ, _+_, _≤_, _<_}
+use native.Mathlib.Omega.{arith}
+use native.Mathlib.Decide.{decLt}
+use lib.Dec.{eqb}
+use lib.ListN.{length, drop, length-append, length-drop}
+use Rattle.network.specs.Strategy.{Strategy, Viable, Dynamic, DynamicallyConsistent}
+use Rattle.network.specs.Game.{start}
+use Rattle.network.specs.Tree.{Tree, preorder}
+use Rattle.network.specs.FirstMoves.{FirstMoves}
+use Rattle.network.specs.Policy.{Policy, SucceedsAlways}
+use Rattle.network.proofs.Booleans.{by-test, eqb-is, differs}
+use Rattle.plan.specs.declared.Plan.{Plan}
+use Rattle.plan.specs.declared.Refusal.the-variants as refusal
+use Rattle.plan.specs.Answer.{Answer, fine}
+use Rattle.plan.specs.Faults.{unless, first, answered, filled}
+use Rattle.plan.specs.Plan.{networkOf}
+use Rattle.plan.specs.WellFormed.{WellFormed}
+use Rattle.plan.proofs.AnswerLaws.{answered-zero}
+use Rattle.judge.specs.Judge.{planFault}
+use Rattle.frame.specs.Texts.{roomFault}
+use Rattle.tree.specs.Nodes.{mostBytes, legalLength, firstNodes, overwritten}
+use Rattle.tree.specs.Trees.{treeBytes}
+use Rattle.plan_text.specs.PlanText.{planText}
+use Rattle.plan_text.specs.ReadPlan.{readPlan}
+use Rattle.plan_text.specs.WritePlan.{writePlan, writePlanLeaves}
+use Rattle.plan_text.proofs.PlanTextTheorems.{read-exactly}
+use Rattle.tree_text.specs.TreeText.{treeText}
+use Rattle.tree_text.specs.ReadTree.{readNodes, readTree}
+use Rattle.tree_text.specs.WriteTree.{writeTree}
+use Rattle.checker.specs.Checker.{checkFault}
+use Rattle.search.specs.declared.Searched.{Searched}
+use Rattle.search.specs.declared.Searched.the-variants as searched
+use Rattle.search.specs.Searched.{searchedAnswer}
+use Rattle.search.specs.Search.{searchFault, searchAnswer, searchLeaves}
+use Rattle.search.proofs.SearchTheorems.{fault-is, refused-zero, hopeless-exactly}
+use Rattle.following.specs.ThisRun.{theRun}
+use Rattle.demands.specs.Calls.{Sized, AnswersJudge, AnswersReadPlan, AnswersWritePlan, AnswersReadTree, AnswersWriteTree, AnswersCheck}
+use Rattle.demands.specs.Calls.{AnswersSearch}
+use Rattle.demands.specs.Demand2.{DescribesStrategy}
+use Rattle.demands.specs.ThisPlanner.{planner}
+use Rattle.demands.specs.Demand3.{SearchedBy, Hopeless, Demand3For}
+use Rattle.demands.proofs.Demand1Theorem.{demand1}
+use Rattle.demands.proofs.Demand2Theorem.{demand2}
+use Rattle.demands.proofs.Demand3Theorem.{demand3}
+use Rattle.demands.proofs.SaidLaws.{search-said}
+use Rattle.records.specs.Records.{planIn, planBytes, planLength}
+use Rattle.records.proofs.RecordsTheorems.{plan-bytes}
+use Rattle.answers.specs.Numbers.{numbered}
+use Rattle.tureenlark.specs.Library.{planShort, unlessShort, judgePlanNumber, readPlanNumber, readPlanLeft, writePlanNumber, writePlanLeft}
+use Rattle.tureenlark.specs.Library.{readTreeNumber, writeTreeNumber, checkTreeNumber, searchNumber, searchLeft}
+use Rattle.tureenlark.specs.Exported.{refusals, answerIn, faultIn}
+use Rattle.tureenlark.specs.LibraryDemands.{Ten}
+use Rattle.tureenlark.proofs.LibraryLaws.{short, long, number-short, number-long, left-short, left-long, filled-short}
+use Rattle.tureenlark.proofs.LibraryTheorems.{read-crosses, searched-exactly, plan-written-exactly, tree-written-exactly, tree-read-exactly}
+use Rattle.tureenlark.proofs.DecodeLaws.{fine-in, fault-in, small-value, answer-in, one-is, is-one, is-result, refused-is, is-refused}
+use Rattle.tureenlark.proofs.RangeLaws.{plan-written-most, tree-read-most, tree-written-most, searched-most}
+
+-- ---- a plan record that is long enough
+
+module _ (plan : List ℕ) (enough : planLength ≤ length plan) where
+  abbrev p : Plan
+  p = planIn plan
+
+  not-short : planShort plan ≡ 0
+  not-short = long planLength plan enough
+
+  -- the number is that of what comes next
+  pub long-number : (f v : ℕ) → numbered (first (planShort plan) f) v ≡ numbered f v
+  long-number f v = sym (number-long (planShort plan) f v not-short)
+
+  pub long-fault : (f v : ℕ) → v < refusals → faultIn (numbered (first (planShort plan) f) v) ≡ f
+  long-fault f v small = ap faultIn (long-number f v) ∙ fault-in f v small
+
+  pub judge-so : AnswersJudge p (faultIn (judgePlanNumber plan))
+  judge-so = subst (AnswersJudge p) (sym (long-fault (planFault p) 1 (omega arith))) (demand1 .judge p)
+
+  pub check-so : (tree : List ℕ) → AnswersCheck p tree (faultIn (checkTreeNumber plan tree))
+  check-so tree = subst (AnswersCheck p tree) (sym (long-fault (checkFault p tree) 1 (omega arith))) (demand1 .check p tree)
+
+  pub check-yes-so :
+      (tree : List ℕ) → (checkTreeNumber plan tree ≡ 1)
+      ↔ (WellFormed p × ((σ : Strategy) × DescribesStrategy p tree σ × Dynamic (networkOf p) σ × Viable (networkOf p) σ))
+  check-yes-so tree =
+      let f = checkFault p tree in
+      let yes = demand2 .yes-exactly p tree in
+      (λ e. yes .0 (one-is f (sym (long-number f 1) ∙ e)), λ h. long-number f 1 ∙ is-one f (yes .1 h))
+
+  -- ---- writing a plan
+
+  written-zero : (text : List ℕ) → ¬ (writePlan p text .fault ≡ 0) → writePlan p text .value ≡ 0
+  unfolding writePlan
+  written-zero text = answered-zero 0 (first (planFault p) (roomFault (planText p) text)) (length (planText p))
+
+  pub write-plan-so : (text : List ℕ) → AnswersWritePlan p text (answerIn (writePlanNumber plan text)) (writePlanLeft plan text)
+  write-plan-so text =
+      let a = writePlan p text in
+      let most : a .fault ≡ 0 → a .value ≤ 1724 = λ e. omega (arith, plan-written-most p text e .1) in
+      let same = ap answerIn (long-number (a .fault) (a .value)) ∙ answer-in a most (written-zero text) in
+      let left = left-long (planShort plan) (writePlanLeaves p text) text not-short in
+      subst (λ (x : Answer ℕ). AnswersWritePlan p text x (writePlanLeft plan text)) (sym same)
+      (subst (AnswersWritePlan p text a) left (demand1 .write-plan p text))
+
+  -- ---- the search
+
+  module _ (tree : List ℕ) where
+    searched-zero : ¬ (searchAnswer p tree .fault ≡ 0) → searchAnswer p tree .value ≡ 0
+    searched-zero some = refused-zero p tree (λ e. some (fault-is p tree ∙ e))
+
+    searched-small : searchAnswer p tree .value < refusals
+    searched-small = small-value (searchAnswer p tree) (λ e. omega (arith, searched-most p tree e .1)) searched-zero
+
+    pub search-number-is : searchNumber plan tree ≡ numbered (searchAnswer p tree .fault) (searchAnswer p tree .value)
+    search-number-is = long-number (searchAnswer p tree .fault) (searchAnswer p tree .value)
+
+    pub search-left-is : searchLeft plan tree ≡ searchLeaves p tree
+    search-left-is = sym (left-long (planShort plan) (searchLeaves p tree) tree not-short)
+
+    search-answer-is : answerIn (searchNumber plan tree) ≡ searchAnswer p tree
+    search-answer-is =
+        ap answerIn search-number-is
+        ∙ answer-in (searchAnswer p tree) (λ e. omega (arith, searched-most p tree e .1)) searched-zero
+
+    pub search-so : AnswersSearch p tree (answerIn (searchNumber plan tree)) (searchLeft plan tree)
+    search-so =
+        subst (λ (x : Answer ℕ). AnswersSearch p tree x (searchLeft plan tree)) (sym search-answer-is)
+        (subst (AnswersSearch p tree (searchAnswer p tree)) (sym search-left-is) (demand1 .search p tree))
+
+    -- 7F0B is the fault 11, and n below it is n nodes
+    pub eleven-is : (searchNumber plan tree ≡ refusals + 11) ↔ (searchAnswer p tree .fault ≡ 11)
+    eleven-is = (
+      λ e. refused-is (searchAnswer p tree .fault) (searchAnswer p tree .value) 11 searched-small (sym search-number-is ∙ e),
+      λ e. search-number-is ∙ is-refused (searchAnswer p tree .fault) (searchAnswer p tree .value) 11 (λ z. omega arith) e,
+    )
+
+    pub search-hopeless-so : WellFormed p → mostBytes ≤ length tree → (searchNumber plan tree ≡ refusals + 11) ↔ (¬ DynamicallyConsistent (networkOf p))
+    search-hopeless-so wf room =
+        let eleven = hopeless-exactly p tree in (
+          λ e. eleven .0 (sym (fault-is p tree) ∙ eleven-is .0 e) .2,
+          λ none. eleven-is .1 (fault-is p tree ∙ eleven .1 (room, wf, none)),
+        )
+
+    -- what was handed back, as the search's own answer
+    made : WellFormed p → mostBytes ≤ length tree → (r : Searched) × (searchedAnswer r ≡ searchAnswer p tree) × Demand3For theRun p tree r (searchLeaves p tree)
+    made wf room =
+        let (r, so) = search-said p tree in
+        (r, so, demand3 p tree wf room r (searchLeaves p tree) (record { answer = so; buffer = refl }))
+
+    pub search-nobody-so : searchNumber plan tree ≡ refusals + 11 → (π : Policy) → ¬ SucceedsAlways (networkOf p) π
+    search-nobody-so e =
+        let (room, wf, none) = hopeless-exactly p tree .0 (sym (fault-is p tree) ∙ eleven-is .0 e) in
+        let (r, so, d) = made wf room in
+        d .nobody (d .hopeless-exactly .1 none)
+
+    pub search-has-tree-so :
+        WellFormed p → mostBytes ≤ length tree → DynamicallyConsistent (networkOf p) →
+        (t : Tree) × FirstMoves (networkOf p) t (start (networkOf p))
+    search-has-tree-so wf room c = let (r, so, d) = made wf room in d .has-tree (λ h. d .hopeless-exactly .0 h c)
+
+    pub search-gets-tree-so :
+        WellFormed p → mostBytes ≤ length tree → DynamicallyConsistent (networkOf p) → (t : Tree) →
+        FirstMoves (networkOf p) t (start (networkOf p)) →
+        (searchNumber plan tree ≡ length (preorder (networkOf p) t)) × (searchLeft plan tree ≡ overwritten (treeBytes (networkOf p) t) tree)
+    search-gets-tree-so wf room c t f =
+        let (r, so, d) = made wf room in
+        let (nodes, left) = d .gets-tree (λ h. d .hopeless-exactly .0 h c) t f in
+        let answer : searchAnswer p tree ≡ fine (length (preorder (networkOf p) t)) = sym so ∙ ap searchedAnswer nodes in
+        (search-number-is ∙ ap (λ (a : Answer ℕ). numbered (a .fault) (a .value)) answer ∙ is-result (length (preorder (networkOf p) t)), search-left-is ∙ left)
+
+    -- a result is the number of nodes that were made
+    pub result-is : searchNumber plan tree < refusals → searchAnswer p tree ≡ fine (searchNumber plan tree)
+    result-is small = sym search-answer-is ∙ fine-in (searchNumber plan tree) small
