@@ -30,8 +30,8 @@ use Rattle.plan_text.specs.ReadPlan.{readPlan}
 use Rattle.plan_text.specs.WritePlan.{writePlan, writePlanLeaves}
 use Rattle.plan_text.proofs.PlanTextTheorems.{read-exactly}
 use Rattle.tree_text.specs.TreeText.{treeText}
-use Rattle.tree_text.specs.ReadTree.{readNodes, readTree}
-use Rattle.tree_text.specs.WriteTree.{writeTree}
+use Rattle.tree_text.specs.ReadTree.{readNodes, readTree, readTreeLeaves}
+use Rattle.tree_text.specs.WriteTree.{writeTree, writeTreeLeaves}
 use Rattle.checker.specs.Checker.{checkFault}
 use Rattle.search.specs.declared.Searched.{Searched}
 use Rattle.search.specs.declared.Searched.the-variants as searched
@@ -89,6 +89,54 @@ module _ (plan : List ℕ) (enough : planLength ≤ length plan) where
       let f = checkFault p tree in
       let yes = demand2 .yes-exactly p tree in
       (λ e. yes .0 (one-is f (sym (long-number f 1) ∙ e)), λ h. long-number f 1 ∙ is-one f (yes .1 h))
+
+  -- ---- reading a plan
+
+  module _ (text : List ℕ) where
+    abbrev read : Plan
+    read = readPlan text .value
+
+    pub there : planIn (readPlanLeft text plan) ≡ read
+    there = read-crosses text plan enough
+
+    pub read-plan-so :
+        AnswersReadPlan text (record { fault = faultIn (readPlanNumber text plan); value = planIn (readPlanLeft text plan) })
+    read-plan-so =
+        let fault = long-fault (readPlan text .fault) 1 (omega arith) in
+        subst (AnswersReadPlan text) (λ i. record { fault = sym fault i; value = sym there i }) (demand1 .read-plan text)
+
+    left-is : readPlanLeft text plan ≡ planBytes read ++ drop planLength plan
+    unfolding filled
+    left-is =
+        ap (λ (n : ℕ). filled n (planBytes read) plan) not-short
+        ∙ ap (λ (n : ℕ). planBytes read ++ drop n plan) (plan-bytes read)
+
+    pub read-plan-bytes-so : readPlanLeft text plan ≡ planBytes (planIn (readPlanLeft text plan)) ++ drop planLength plan
+    read-plan-bytes-so = left-is ∙ ap (λ (q : Plan). planBytes q ++ drop planLength plan) (sym there)
+
+    -- 1 exactly where the text is read
+    pub read-one : (readPlanNumber text plan ≡ 1) ↔ (readPlan text .fault ≡ 0)
+    read-one =
+        let f = readPlan text .fault in
+        (λ e. one-is f (sym (long-number f 1) ∙ e), λ e. long-number f 1 ∙ is-one f e)
+
+    pub read-plan-exactly-so :
+        (q : Plan) → Sized q →
+        ((readPlanNumber text plan ≡ 1) × (planIn (readPlanLeft text plan) ≡ q)) ↔ ((text ≡ planText q) × WellFormed q)
+    read-plan-exactly-so q sized =
+        let exactly = demand2 .plan-exactly text q sized in (
+          λ (one, is). let none = read-one .0 one in
+              let same = sym there ∙ is in
+              exactly .0 (λ i. record { fault = none i; value = same i }),
+          λ h. let e = exactly .1 h in
+              (read-one .1 (ap (λ (a : Answer Plan). a .fault) e), there ∙ ap (λ (a : Answer Plan). a .value) e),
+        )
+
+    pub left-long-enough : planLength ≤ length (readPlanLeft text plan)
+    left-long-enough =
+        let all = ap length left-is ∙ length-append (planBytes read) (drop planLength plan) in
+        let bytes = plan-bytes read in
+        omega (arith, all, bytes)
 
   -- ---- writing a plan
 
@@ -174,3 +222,61 @@ module _ (plan : List ℕ) (enough : planLength ≤ length plan) where
     -- a result is the number of nodes that were made
     pub result-is : searchNumber plan tree < refusals → searchAnswer p tree ≡ fine (searchNumber plan tree)
     result-is small = sym search-answer-is ∙ fine-in (searchNumber plan tree) small
+
+-- ---- a text that was read is written back
+
+-- it was read into a record that is long enough
+read-long : (text plan : List ℕ) → readPlanNumber text plan ≡ 1 → planLength ≤ length plan
+read-long text plan one =
+    by-cases (decLt (length plan) planLength)
+    (λ lt. let ten = number-short (planShort plan) (readPlan text .fault) 1 (short planLength plan lt) in
+    let z : _≡_ {A = ℕ} 32522 1 = ten ∙ one in
+    absurd (omega arith))
+    (λ ge. omega arith)
+
+pub read-plan-back-so :
+    (text plan buffer : List ℕ) → readPlanNumber text plan ≡ 1 → length text ≤ length buffer →
+    (writePlanNumber (readPlanLeft text plan) buffer ≡ length text)
+    × (writePlanLeft (readPlanLeft text plan) buffer ≡ text ++ drop (length text) buffer)
+read-plan-back-so text plan buffer one room =
+    let enough = read-long text plan one in
+    let left = readPlanLeft text plan in
+    let q = readPlan text .value in
+    let none = read-one plan enough text .0 one in
+    let (is-text, wf, six, sixty-four) = read-exactly text q .0 (λ i. record { fault = none i; value = q }) in
+    let long-left = left-long-enough plan enough text in
+    let fits : length (planText q) ≤ length buffer = subst (λ (l : List ℕ). length l ≤ length buffer) is-text room in
+    let written : writePlan (planIn left) buffer ≡ fine (length (planText q)) =
+    ap (λ (x : Plan). writePlan x buffer) (there plan enough text) ∙ demand2 .plan-back q wf (six, sixty-four) buffer fits .0 in
+    let number : writePlanNumber left buffer ≡ length text =
+    long-number left long-left (writePlan (planIn left) buffer .fault) (writePlan (planIn left) buffer .value)
+    ∙ ap (λ (a : Answer ℕ). numbered (a .fault) (a .value)) written ∙ is-result (length (planText q)) ∙ ap length (sym is-text) in
+    let so = demand1 .write-plan (planIn left) buffer in
+    let fills = so .bytes .front (ap (λ (a : Answer ℕ). a .fault) written) in
+    let text-is : planText (planIn left) ≡ text = ap planText (there plan enough text) ∙ sym is-text in
+    let leaves : writePlanLeft left buffer ≡ writePlanLeaves (planIn left) buffer =
+    sym (left-long (planShort left) (writePlanLeaves (planIn left) buffer) buffer (long planLength left long-left)) in
+    (number, leaves ∙ fills ∙ ap (λ (l : List ℕ). l ++ drop (length l) buffer) text-is)
+
+-- ---- trees and their texts
+
+tree-read-zero : (text tree : List ℕ) → ¬ (readTree text tree .fault ≡ 0) → readTree text tree .value ≡ 0
+unfolding readTree
+tree-read-zero text tree = answered-zero 0 _ (readNodes text .value)
+
+pub read-tree-so : (text tree : List ℕ) → AnswersReadTree text tree (answerIn (readTreeNumber text tree)) (readTreeLeaves text tree)
+read-tree-so text tree =
+    let a = readTree text tree in
+    let same = answer-in a (λ e. omega (arith, tree-read-most text tree e .1)) (tree-read-zero text tree) in
+    subst (λ (x : Answer ℕ). AnswersReadTree text tree x (readTreeLeaves text tree)) (sym same) (demand1 .read-tree text tree)
+
+tree-written-zero : (tree text : List ℕ) → ¬ (writeTree tree text .fault ≡ 0) → writeTree tree text .value ≡ 0
+unfolding writeTree
+tree-written-zero tree text =
+    answered-zero 0 (first (unless (legalLength (length tree)) refusal.Shape) (roomFault (treeText tree) text)) (length (treeText tree))
+
+pub write-tree-so : (tree text : List ℕ) → AnswersWriteTree tree text (answerIn (writeTreeNumber tree text)) (writeTreeLeaves tree text)
+write-tree-so tree text =
+    let a = writeTree tree text in
+    let same = answer-in a (λ e. tree-written-most tree text e .1) (tree-written-zero tree text) in
+    subst (λ (x : Answer ℕ). AnswersWriteTree tree text x (writeTreeLeaves tree text)) (sym same) (demand1 .write-tree tree text)

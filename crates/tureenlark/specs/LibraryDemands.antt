@@ -125,7 +125,7 @@ pub record LibraryDemands (L : Exported) : Type 0 where
       (plan tree : List ℕ) → planLength ≤ length plan → L .search plan tree ≡ refusals + 11 → (π : Policy) →
       ¬ SucceedsAlways (networkOf (planIn plan)) π
   pub search-has-tree :
-      (plan tree : List ℕ) → planLength ≤ length plan → WellFormed (planIn plan) → DynamicallyConsistent (networkOf (planIn plan)) →
+      (plan : List ℕ) → planLength ≤ length plan → WellFormed (planIn plan) → DynamicallyConsistent (networkOf (planIn plan)) →
       (t : Tree) × FirstMoves (networkOf (planIn plan)) t (start (networkOf (planIn plan)))
   pub search-gets-tree :
       (plan tree : List ℕ) → planLength ≤ length plan → WellFormed (planIn plan) → mostBytes ≤ length tree →
