@@ -5,3 +5,4 @@ pub mod RangeLaws
 pub mod FollowLaws
 pub mod LibraryTheorems
 pub mod PlanCallLaws
+pub mod RunCallLaws
