@@ -11,6 +11,7 @@ use lib.ListN.{length, take, drop, getD, replicate, take-append-drop, length-set
 use lib.Seq.{drop-append-seam}
 use Rattle.network.specs.Mask.{joinBelow}
 use Rattle.network.specs.Crew as crew
+use Rattle.network.proofs.JoinLaws.{join-first}
 use Rattle.network.proofs.Booleans.{by-test, eqb-is, eqb-no, differs}
 use Rattle.plan.specs.declared.Plan.{Plan}
 use Rattle.plan.specs.Answer.{Answer, fine}
@@ -43,9 +44,10 @@ use Rattle.tureenlark.specs.Library.{showLeft, reportShort, reportAt, re
 use Rattle.tureenlark.specs.Library.{stepsBytes, followShort, followed, followNumber, followHistory, followSteps}
 use Rattle.tureenlark.specs.Exported.{refusals, faultIn, toldIn, runOf, bytesOfSteps}
 use Rattle.tureenlark.specs.ThisLibrary.{library}
-use Rattle.tureenlark.proofs.LibraryLaws.{short, long, then-short}
+use Rattle.tureenlark.proofs.LibraryLaws.{long, then-short}
+use Rattle.tureenlark.proofs.FollowLaws.{steps-length}
 use Rattle.tureenlark.proofs.LibraryTheorems.{report-refused-same}
-use Rattle.tureenlark.proofs.DecodeLaws.{fault-in, told-in}
+use Rattle.tureenlark.proofs.DecodeLaws.{fault-in, is-result, told-in}
 use Rattle.tureenlark.proofs.RangeLaws.{eight-in}
 use Rattle.tureenlark.proofs.PlanCallLaws.{search-left-is, result-is}
 
@@ -158,3 +160,145 @@ module _ (plan tree history : List ℕ) (mask : ℕ) where
         ap (λ (f : ℕ). faultIn (numbered (first f (back .fault)) 1)) report-long ∙ fault-in (back .fault) 1 (omega arith) in
         let value = ap historyIn report-left-is ∙ history-front (back .value) eight-back (drop historyLength history) in
         λ i. record { fault = fault i; value = value i }
+
+    pub report-so :
+        (instruction : List ℕ) → 3 ≤ length instruction → AnswersReport (planIn plan) (historyIn history) mask
+        (toldIn (showNumber plan tree history instruction) (showLeft plan tree history instruction))
+        (record { fault = faultIn (reportNumber plan tree history mask); value = historyIn (reportLeft plan tree history mask) })
+    report-so instruction three =
+        let told = told-is plan tree history instruction enough nine three in
+        subst (λ (x : Told). AnswersReport (planIn plan) (historyIn history) mask x (record {
+          fault = faultIn (reportNumber plan tree history mask);
+          value = historyIn (reportLeft plan tree history mask);
+        })) (sym told)
+        (subst (AnswersReport (planIn plan) (historyIn history) mask (toldAt plan tree history)) (sym report-back-is)
+        (demand1 .report (planIn plan) tree (historyIn history) mask))
+
+  -- every byte of the history, whether the plan is long enough or not
+  own-bytes : historyLength ≤ length history → history ≡ historyBytes (historyIn history) ++ drop historyLength history
+  own-bytes nine =
+      sym (ap (λ (l : List ℕ). l ++ drop historyLength history) (history-bytes-cross history nine) ∙ take-append-drop historyLength history)
+
+  pub report-bytes-so :
+      historyLength ≤ length history →
+      (reportLeft plan tree history mask ≡ historyBytes (historyIn (reportLeft plan tree history mask)) ++ drop historyLength history)
+      × (¬ (reportNumber plan tree history mask ≡ 1) → reportLeft plan tree history mask ≡ history)
+  report-bytes-so nine =
+      let f = reportShort plan history in
+      let bytes = historyBytes (back .value) in
+      let left = reportLeft plan tree history mask in
+      let all : left ≡ historyBytes (historyIn left) ++ drop historyLength history =
+      by-test (eqb f 0)
+      (λ y. let is = front-is f bytes history (eqb-is f 0 y) ∙ ap (λ (n : ℕ). bytes ++ drop n history) nine-back in
+      let there = ap historyIn is ∙ history-front (back .value) eight-back (drop historyLength history) in
+      is ∙ ap (λ (h : History). historyBytes h ++ drop historyLength history) (sym there))
+      (λ z. let stays = kept-is f bytes history (differs f 0 z) in
+      stays ∙ own-bytes nine ∙ ap (λ (l : List ℕ). historyBytes (historyIn l) ++ drop historyLength history) (sym stays)) in
+      (all, report-refused-same plan tree history mask)
+
+-- ---- the run through the layouts is this planner's
+
+module _ (plan tree : List ℕ) (enough : planLength ≤ length plan) where
+  agrees : Agrees (runOf library plan) theRun (planIn plan) tree
+  agrees =
+      let nine : (h : History) → Eight h → historyLength ≤ length (historyBytes h) = λ h eight. omega arith in
+      record {
+        shows = λ h eight.
+            told-is plan tree (historyBytes h) (replicate 3 0) enough (nine h eight) (omega arith)
+            ∙ ap (showAnswer (planIn plan) tree) (history-crosses h eight);
+        reports = λ h eight o.
+            report-back-is plan tree (historyBytes h) o enough (nine h eight)
+            ∙ ap (λ (k : History). reportAnswer (planIn plan) tree k o) (history-crosses h eight);
+        eight-back = λ h eight o.
+            subst (λ (k : History). Eight (reportAnswer (planIn plan) tree k o .value)) (history-crosses h eight)
+            (eight-back plan tree (historyBytes h) o);
+      }
+
+module _ (plan lent : List ℕ) (enough : planLength ≤ length plan) (small : searchNumber plan lent < refusals) where
+  abbrev made : List ℕ
+  made = firstNodes (searchLeft plan lent) (searchNumber plan lent)
+
+  answer-is : searchAnswer (planIn plan) lent ≡ fine (searchNumber plan lent)
+  answer-is = result-is plan enough lent small
+
+  promise : Demand3For theRun (planIn plan) lent (searched.Nodes (searchNumber plan lent)) (searchLeft plan lent)
+  promise =
+      let none = sym (fault-is (planIn plan) lent) ∙ ap (λ (a : Answer ℕ). a .fault) answer-is in
+      let (room, wf, c) = answered-exactly (planIn plan) lent .0 none in
+      demand3 (planIn plan) lent wf room (searched.Nodes (searchNumber plan lent)) (searchLeft plan lent)
+      (record { answer = sym answer-is; buffer = search-left-is plan enough lent })
+
+  pub every-crew-so : (crew : Crew (runOf library plan) (planIn plan) made) → EveryCrew crew
+  every-crew-so =
+      every-crew-of (runOf library plan) theRun (planIn plan) made (agrees plan made enough)
+      (promise .every-crew (searchNumber plan lent) refl)
+
+  pub every-two-crews-so : EveryTwoCrews (runOf library plan) (planIn plan) made
+  every-two-crews-so =
+      two-crews-of (runOf library plan) theRun (planIn plan) made (agrees plan made enough)
+      (promise .every-two-crews (searchNumber plan lent) refl)
+
+-- ---- lists of calls
+
+-- the steps of a record, byte by byte, with z zero steps behind them
+recorded :
+    (n z : ℕ) (log : List crew.Step) → length log ≤ n →
+    joinBelow n (λ i. stepBytes (getD (map stepRecord log ++ replicate z zeroStep) i zeroStep)) ≡ bytesOfSteps n log
+unfolding bytesOfSteps joinBelow
+recorded zero z [] le = refl
+recorded zero z (st ∷ log) le = absurd (omega arith)
+recorded (suc n) zero [] le =
+    join-first n (λ i. stepBytes zeroStep) ∙ ap (λ (l : List ℕ). 0 ∷ 0 ∷ 0 ∷ 0 ∷ l) (recorded n zero [] (omega arith))
+recorded (suc n) (suc z) [] le =
+    join-first n (λ i. stepBytes (getD (replicate (suc z) zeroStep) i zeroStep))
+    ∙ ap (λ (l : List ℕ). 0 ∷ 0 ∷ 0 ∷ 0 ∷ l) (recorded n z [] (omega arith))
+recorded (suc n) z (st ∷ log) le =
+    join-first n (λ i. stepBytes (getD (map stepRecord (st ∷ log) ++ replicate z zeroStep) i zeroStep))
+    ∙ ap (λ (l : List ℕ). st .instruction .slot ∷ st .instruction .points ∷ st .instruction .choices ∷ st .report ∷ l)
+    (recorded n z log (omega arith))
+
+module _
+    (plan tree history calls steps : List ℕ) (enough : planLength ≤ length plan) (nine : historyLength ≤ length history)
+    (room : 32 ≤ length steps) where
+  follow-long : followShort plan history steps ≡ 0
+  follow-long =
+      then-short (planShort plan) _ 0 (long planLength plan enough)
+      (then-short (historyShort history) _ 0 (long historyLength history nine) (long stepsLength steps room))
+
+  abbrev progress : Progress
+  progress = followed plan tree history calls
+
+  abbrev through : Progress
+  through = afterCalls (runOf library plan) (planIn plan) tree (begun (historyIn history)) (callsIn calls)
+
+  through-is : through ≡ progress
+  through-is =
+      calls-agree (runOf library plan) theRun (planIn plan) tree (agrees plan tree enough) (begun (historyIn history)) (callsIn calls)
+      (eight-in history)
+
+  few : length (progress .steps) ≤ 8
+  few = demand1 .follow-few (planIn plan) tree (historyIn history) calls (eight-in history)
+
+  eight : length (progress .history .masks) ≡ 8
+  eight =
+      calls-eight (runOf library plan) theRun (planIn plan) tree (agrees plan tree enough) (begun (historyIn history)) (callsIn calls)
+      (eight-in history)
+
+  steps-are : stepsBytes progress ≡ bytesOfSteps 8 (progress .steps)
+  unfolding stepsBytes followedRecord
+  steps-are = recorded 8 (8 - length (progress .steps)) (progress .steps) few
+
+  pub follow-so :
+      (followNumber plan tree history calls steps ≡ length (through .steps))
+      × (followHistory plan tree history calls steps ≡ historyBytes (through .history) ++ drop historyLength history)
+      × (followSteps plan tree history calls steps ≡ bytesOfSteps 8 (through .steps) ++ drop 32 steps)
+  follow-so =
+      let f = followShort plan history steps in
+      let number = ap (λ (n : ℕ). numbered n (length (progress .steps))) follow-long ∙ is-result (length (progress .steps)) in
+      let nine-bytes : length (historyBytes (progress .history)) ≡ historyLength = ap (λ (n : ℕ). suc n) eight in
+      let left = front-is f (historyBytes (progress .history)) history follow-long
+      ∙ ap (λ (n : ℕ). historyBytes (progress .history) ++ drop n history) nine-bytes in
+      let put = front-is f (stepsBytes progress) steps follow-long
+      ∙ ap (λ (n : ℕ). stepsBytes progress ++ drop n steps) (steps-length progress)
+      ∙ ap (λ (l : List ℕ). l ++ drop 32 steps) steps-are in
+      rw through-is (number, left, put)
