@@ -24,11 +24,11 @@ use Rattle.tureenlark.specs.LibraryDemands.{Answers}
 
 -- ---- a number
 
-number-fine : (f v : ℕ) → f ≡ 0 → numbered f v ≡ v
+pub number-fine : (f v : ℕ) → f ≡ 0 → numbered f v ≡ v
 unfolding numbered
 number-fine f v e = rw e
 
-number-refused : (f v : ℕ) → ¬ (f ≡ 0) → numbered f v ≡ refusals + f
+pub number-refused : (f v : ℕ) → ¬ (f ≡ 0) → numbered f v ≡ refusals + f
 unfolding numbered
 number-refused f v some = rw (eqb-no f 0 some)
 

@@ -6,3 +6,4 @@ pub mod FollowLaws
 pub mod LibraryTheorems
 pub mod PlanCallLaws
 pub mod RunCallLaws
+pub mod FixedCallLaws

@@ -52,11 +52,11 @@ use Rattle.tureenlark.proofs.RangeLaws.{eight-in}
 use Rattle.tureenlark.proofs.PlanCallLaws.{search-left-is, result-is}
 
 -- bytes at the front of a buffer, and what stands behind them
-front-is : (f : ℕ) (bytes xs : List ℕ) → f ≡ 0 → filled f bytes xs ≡ bytes ++ drop (length bytes) xs
+pub front-is : (f : ℕ) (bytes xs : List ℕ) → f ≡ 0 → filled f bytes xs ≡ bytes ++ drop (length bytes) xs
 unfolding filled
 front-is f bytes xs e = rw e
 
-kept-is : (f : ℕ) (bytes xs : List ℕ) → ¬ (f ≡ 0) → filled f bytes xs ≡ xs
+pub kept-is : (f : ℕ) (bytes xs : List ℕ) → ¬ (f ≡ 0) → filled f bytes xs ≡ xs
 unfolding filled
 kept-is f bytes xs some = rw (eqb-no f 0 some)
 
