@@ -144,7 +144,6 @@ module _ (plan : List ℕ) (enough : planLength ≤ length plan) where
       subst (AnswersJudge (planIn plan)) (sym (long-fault plan enough (answer .fault) (digit (answer .value)) (digit-small (answer .value))))
       (demand1 .screen (planIn plan))
 
-
   pub screen-passes-so :
       WellFormed (planIn plan) →
       ((screenNumber plan ≡ 1) ↔ PassesScreen (networkOf (planIn plan))) × ((screenNumber plan ≡ 0) ↔ (¬ PassesScreen (networkOf (planIn plan))))
@@ -180,9 +179,10 @@ answer-so input = (
   demand1 .program input,
   λ text lt.
       let ten = short (length (answerText input)) text lt in
-      let some : ¬ (answerFault input text ≡ 0) = λ e. omega (arith, ten, e) in
-      (number-refused (answerFault input text) (length (answerText input)) some ∙ ap (λ (k : ℕ). refusals + k) ten,
-       kept-is (answerFault input text) (answerText input) text some),
+      let some : ¬ (answerFault input text ≡ 0) = λ e. omega (arith, ten, e) in (
+        number-refused (answerFault input text) (length (answerText input)) some ∙ ap (λ (k : ℕ). refusals + k) ten,
+        kept-is (answerFault input text) (answerText input) text some,
+      ),
   λ text le.
       let none = long (length (answerText input)) text le in
       (number-fine (answerFault input text) (length (answerText input)) none, front-is (answerFault input text) (answerText input) text none),

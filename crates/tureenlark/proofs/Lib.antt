@@ -7,3 +7,4 @@ pub mod LibraryTheorems
 pub mod PlanCallLaws
 pub mod RunCallLaws
 pub mod FixedCallLaws
+pub mod LibraryTheorem
