@@ -1,6 +1,6 @@
 -- Cases: small networks of document 01, computed, and what the definitions say of them. Only the checker need believe this file; a reader
 -- may like to.
-use mathlib.Core.Path.{_≡_, refl}
+use mathlib.Core.Path.{_≡_, refl, ap}
 use mathlib.Core.Logic.{inl, inr, ⊎-elim, by-cases}
 use mathlib.Core.List.{List, [], _∷_}
 use mathlib.Core.Bool.{Bool, true, false, cond}
@@ -12,7 +12,7 @@ use lib.Dec.{leb, eqb}
 use lib.IntN.{ℤ, pos, negsuc}
 use Rattle.network.specs.Mask.{bit, mask, count, allBelow, firstBelow, joinBelow, submask}
 use Rattle.network.specs.Below.{anyBelow, sumBelow}
-use Rattle.network.specs.Network.{Constraint, Network, Schedule, condition, holds, projected, atMost, feasible, keeps}
+use Rattle.network.specs.Network.{Constraint, Network, Schedule, condition, holds, combined, projected, atMost, feasible, keeps}
 use Rattle.network.specs.Strategy.{ConditionScenario, Strategy, Viable, InHistory, SameHistory, Dynamic}
 use Rattle.network.specs.Fixed.{ScheduleFor, Least, Setting, PassesScreen}
 use Rattle.network.specs.Game.{start, Move, Legal, after}
@@ -20,8 +20,8 @@ use Rattle.network.specs.Tree.{preorder}
 use Rattle.network.specs.Sizes.{nodes}
 use Rattle.network.specs.Search.{over, winsBy, winsWith, winsIn, winnable, firstMove, firstTreeFrom, firstTree, hopeless}
 use Rattle.network.specs.FirstMoves.{Before}
-use Rattle.network.specs.Crew.{Step, timesPerformed, slotBySteps, valueBySteps, Some, Hears}
-use Rattle.network.specs.Policy.{Policy, observe, heardBefore}
+use Rattle.network.specs.Crew.{Step, timesPerformed, slotBySteps, valueBySteps, Some, Hears, ToldAlike}
+use Rattle.network.specs.Policy.{Policy, observe, heardBefore, slotBy, choicesBy, Succeeds}
 use Rattle.network.proofs.Booleans.{by-test, clash, and-left, leb-is, ltb-yes, differs}
 use Rattle.network.proofs.MaskLaws.{bit-zero, bit-above}
 
@@ -236,6 +236,12 @@ pub heard-by-slot :
 unfolding bit mask observe heardBefore
 heard-by-slot = (refl, refl, refl, refl, refl)
 
+-- K5's constraints are kept where condition 0 is false and point 1 is left out: the slot of a point that is not performed is one past the
+-- horizon. That is no success.
+pub left-out : (keeps k5 (slotBy k5 waiting 0) (combined k5 0 (choicesBy k5 waiting 0)) ≡ true) × (¬ Succeeds k5 waiting 0)
+unfolding bit mask count firstBelow allBelow holds atMost keeps feasible projected
+left-out = (refl, λ s. omega (arith, s .once 1 (omega arith)))
+
 -- ---- both ends of the horizon count
 
 -- with horizon 0 the one slot 0 is within it
@@ -280,6 +286,22 @@ heard-later = (
       (λ (h : Hears k4 0 0 true (step 0 1 0 1)). let b = h .0 in omega arith)
       (λ g. ⊎-elim (λ (h : Hears k4 0 0 true (step 1 2 0 0)). let b = h .0 in omega arith) (λ n. n) g)
       f,
+)
+
+-- two crews that each followed an instruction of slot 1 were not told alike in it: other points, other choices
+pub told-apart : (¬ ToldAlike (step 1 1 0 0 ∷ []) (step 1 2 0 0 ∷ []) 1) × (¬ ToldAlike (step 1 1 0 0 ∷ []) (step 1 1 2 0 ∷ []) 1)
+unfolding Some
+told-apart = (
+  λ a. ⊎-elim
+      (λ s. ⊎-elim
+      (λ e. ⊎-elim (λ f. omega (arith, ap (λ (m : Move). m .points) e, ap (λ (m : Move). m .points) f)) (λ n. n) (s .3))
+      (λ n. n) (s .2))
+      (λ n. n .0 (inl refl)) a,
+  λ a. ⊎-elim
+      (λ s. ⊎-elim
+      (λ e. ⊎-elim (λ f. omega (arith, ap (λ (m : Move). m .choices) e, ap (λ (m : Move). m .choices) f)) (λ n. n) (s .3))
+      (λ n. n) (s .2))
+      (λ n. n .0 (inl refl)) a,
 )
 
 -- ---- what a crew performed and set, by its steps
