@@ -16,7 +16,7 @@ use Rattle.plan.specs.Plan.{listed}
 use Rattle.plan.proofs.PlanLaws.{listed-same}
 use Rattle.frame.specs.Hex.{hexDigit}
 use Rattle.frame.specs.ReadFrame.{digitOf, pairOf, frameLength, byteAt, valueAt, whole}
-use Rattle.frame.specs.Frame.{Bytes, frameText}
+use Rattle.frame.specs.Frame.{Bytes, frameText, Begins}
 use Rattle.frame.proofs.HexLaws.{byte-back, byte-digits}
 
 -- the same as `Bytes`, one by one
@@ -177,10 +177,7 @@ listed-bytes zero f h = λ k. lit< tt
 listed-bytes (suc n) f h = bytes-more (f zero) (listed n (λ k. f (suc k))) (h zero) (listed-bytes n (λ k. f (suc k)) (λ k. h (suc k)))
 
 -- a text begins with a whole frame exactly where it begins with the text of one
-pub whole-exactly :
-    (kind n : ℕ) (s : List ℕ) → kind < 256 →
-    (whole kind (suc n) s ≡ true)
-    ↔ ((bs : List ℕ) × (r : List ℕ) × (length bs ≡ n) × Bytes bs × (s ≡ frameText (kind ∷ bs) ++ r))
+pub whole-exactly : (kind n : ℕ) (s : List ℕ) → kind < 256 → (whole kind (suc n) s ≡ true) ↔ Begins kind n s
 whole-exactly kind n s lt = (
   λ e. (
     listed n (λ k. valueAt s (suc k)),

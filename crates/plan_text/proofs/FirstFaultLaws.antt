@@ -4,6 +4,7 @@ use mathlib.Core.List.{List, _∷_, _++_, append-assoc}
 use Prim.Native.Nat.{ℕ, _<_}
 use native.Mathlib.Omega.{arith}
 use lib.ListN.{drop}
+use Rattle.network.proofs.Booleans.{false-exactly}
 use Rattle.plan.specs.declared.Letter.{Letter}
 use Rattle.plan.specs.declared.Constraint.{Constraint}
 use Rattle.plan.specs.declared.Plan.{Plan}
@@ -16,6 +17,7 @@ use Rattle.plan.specs.WellFormed.{FineHead, FineConstraint}
 use Rattle.plan.proofs.RefusalLaws.{no-refusal}
 use Rattle.frame.specs.ReadFrame.{frameLength}
 use Rattle.frame.specs.Texts.{atEnd}
+use Rattle.frame.proofs.FrameLaws.{whole-exactly}
 use Rattle.frame.proofs.RunLaws.{then-refused, frames-refused, frames-end, at-end-extra}
 use Rattle.plan_text.specs.PlanText.{headText, letterText, constraintText}
 use Rattle.plan_text.specs.ReadPlan.{readHead, readLetter, readConstraint, readConstraints, readLetters, readPlan}
@@ -99,15 +101,15 @@ never-none t n (in-constraint-values p j c rest f lt b bad) e = no-refusal refus
 never-none t n (extra p c rest f) e = no-refusal refusal.PlanText e
 
 pub fault-is : (t : List ℕ) (n : ℕ) → FirstFault t n → readPlan t .fault ≡ n
-fault-is t n (in-head-frame rest z) = head-refused rest refusal.PlanText (head-broken rest z)
+fault-is t n (in-head-frame rest z) = head-refused rest refusal.PlanText (head-broken rest (false-exactly (whole-exactly 1 4 rest (omega arith)) .1 z))
 fault-is t n (in-head-values p rest b bad) = head-refused (headText p ++ rest) refusal.Head (head-values p rest b bad)
 fault-is t n (in-letter-frame p i rest f lt z) =
-    letter-refused p i f lt refusal.PlanText rest (letter-broken rest (lettersRead p i) i z)
+    letter-refused p i f lt refusal.PlanText rest (letter-broken rest (lettersRead p i) i (false-exactly (whole-exactly 2 3 rest (omega arith)) .1 z))
 fault-is t n (in-letter-values p i k l rest f lt b bad) =
     ap (λ (s : List ℕ). readPlan s .fault) (append-assoc (frontText p i 0) (letterText k l) rest)
     ∙ letter-refused p i f lt refusal.Letters (letterText k l ++ rest) (letter-values p i f lt k l rest b bad)
 fault-is t n (in-constraint-frame p j rest f lt z) =
-    constraint-refused p j f lt refusal.PlanText rest (constraint-broken rest (constraintsRead p j) j z)
+    constraint-refused p j f lt refusal.PlanText rest (constraint-broken rest (constraintsRead p j) j (false-exactly (whole-exactly 3 6 rest (omega arith)) .1 z))
 fault-is t n (in-constraint-values p j c rest f lt b bad) =
     ap (λ (s : List ℕ). readPlan s .fault) (append-assoc (frontText p (p .letters) j) (constraintText c) rest)
     ∙ constraint-refused p j f lt refusal.Constraints (constraintText c ++ rest) (constraint-values p j f lt c rest b bad)

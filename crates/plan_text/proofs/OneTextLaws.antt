@@ -6,6 +6,7 @@ use mathlib.Core.Bool.{true, _&&_}
 use mathlib.Core.List.{List, [], _∷_, _++_, append-assoc, append-nil}
 use Prim.Native.Nat.{ℕ, _<_}
 use native.Mathlib.Nat.{not-suc-le-zero}
+use native.Mathlib.Omega.{arith}
 use lib.Dec.{eqb}
 use lib.ListN.{length, drop, replicate}
 use Rattle.network.specs.Mask.{joinBelow}
@@ -23,6 +24,7 @@ use Rattle.judge.proofs.JudgeLaws.{headOf}
 use Rattle.judge.proofs.WellFormedLaws.{head-exactly, says-constraint}
 use Rattle.frame.specs.ReadFrame.{frameLength, valueAt, whole}
 use Rattle.frame.specs.Texts.{atEnd}
+use Rattle.frame.proofs.FrameLaws.{whole-exactly}
 use Rattle.frame.proofs.RunLaws.{frame-read-is, at-end}
 use Rattle.plan_text.specs.PlanText.{headText, letterText, constraintText, lettersText, planText}
 use Rattle.plan_text.specs.ReadPlan.{headIn, letterIn, withLetter, readLetter, constraintIn, withConstraint, readConstraint, readConstraints, readLetters, readPlan}
@@ -115,7 +117,7 @@ module _
         ∙ sym (append-assoc (frontText q (p .letters) j) (constraintText c) (drop (frameLength 7) r)))
         (in-constraint-values q j c (drop (frameLength 7) r) q-front lt (constraint-in-bytes r)
         (λ g. bad (ap (λ (a : Answer Plan). a .fault) (constraint-read r q j w g)))))
-        (λ z. faulty q-said (in-constraint-frame q j r q-front lt z))
+        (λ z. faulty q-said (in-constraint-frame q j r q-front lt (false-exactly (whole-exactly 3 6 r (omega arith)) .0 z)))
 
   ends :
       (cs : List Constraint) (r : List ℕ) → ConstraintsSaid (p .constraints) cs r →
@@ -192,7 +194,7 @@ module _ (p : Plan) (t s : List ℕ) (head : FineHead p) (said : t ≡ headText 
         ∙ sym (append-assoc (frontText g i 0) (letterText k l) (drop (frameLength 4) r)))
         (in-letter-values g i k l (drop (frameLength 4) r) g-front lt (letter-in-bytes r)
         (λ y. bad (ap (λ (a : Answer Plan). a .fault) (letter-read r g i w y)))))
-        (λ z. faulty g-front-said (in-letter-frame g i r g-front lt z))
+        (λ z. faulty g-front-said (in-letter-frame g i r g-front lt (false-exactly (whole-exactly 2 3 r (omega arith)) .0 z)))
 
   letters-judged : Judged t
   letters-judged =
@@ -217,7 +219,7 @@ text-judged t =
     (λ w. by-test (headOf p)
     (λ y. let f = head-exactly p .0 y in letters-judged p t s f (head-said t w) (head-goes t w f))
     (λ z. inl (faulty (head-said t w) (in-head-values p s (head-in-bytes t) (false-exactly (head-exactly p) .0 z)))))
-    (λ z. inl (faulty refl (in-head-frame t z)))
+    (λ z. inl (faulty refl (in-head-frame t (false-exactly (whole-exactly 1 4 t (omega arith)) .0 z))))
 
 -- ---- what a text is
 

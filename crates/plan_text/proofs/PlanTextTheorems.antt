@@ -16,7 +16,7 @@ use Rattle.plan.specs.Answer.{Answer, fine}
 use Rattle.plan.specs.Plan.{zeroLetter, zeroConstraint, zeroPlan, letterAt, constraintAt}
 use Rattle.plan.specs.WellFormed.{WellFormed}
 use Rattle.plan.proofs.RefusalLaws.{fine-is, refused-is, no-refusal}
-use Rattle.frame.specs.Frame.{Bytes, frameText}
+use Rattle.frame.specs.Frame.{Begins}
 use Rattle.frame.specs.ReadFrame.{frameLength, whole}
 use Rattle.frame.proofs.FrameLaws as frames
 use Rattle.frame.proofs.RunLaws.{filled-front}
@@ -72,11 +72,8 @@ read-refused-exactly t r e k =
 pub one-number : (t : List ℕ) (m n : ℕ) → FirstFault t m → FirstFault t n → m ≡ n
 one-number t m n f g = sym (fault-is t m f) ∙ fault-is t n g
 
--- What `FirstFault` rests on. A text begins with a whole frame of a kind exactly where it begins with the text of that kind and n bytes ..
-pub whole-exactly :
-    (kind n : ℕ) (s : List ℕ) → kind < 256 →
-    (whole kind (suc n) s ≡ true)
-    ↔ ((bs : List ℕ) × (r : List ℕ) × (length bs ≡ n) × Bytes bs × (s ≡ frameText (kind ∷ bs) ++ r))
+-- What reading tests: whether a text begins with a whole frame, which `FirstFault` asks by the text of that kind and n bytes ..
+pub whole-exactly : (kind n : ℕ) (s : List ℕ) → kind < 256 → (whole kind (suc n) s ≡ true) ↔ Begins kind n s
 whole-exactly = frames.whole-exactly
 
 -- .. which the frame's own characters say, whatever follows them ..

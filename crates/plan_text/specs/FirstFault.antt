@@ -1,7 +1,6 @@
--- Definitions: the first faulty frame of a plan text, and its number. They go by what is written, and not by how a text is read. A reader
--- must believe this file; that a text is refused with a number exactly by it is `refused-exactly` of proofs/PlanTextTheorems.antt.
+-- Definitions: the first faulty frame of a plan text, and its number. They go by what is written, and not by how a text is read. That a text
+-- is refused with a number exactly by it is `refused-exactly` of proofs/PlanTextTheorems.antt. To be believed, for demand 1.
 use mathlib.Core.Path.{_≡_}
-use mathlib.Core.Bool.{false}
 use mathlib.Core.List.{List, [], _∷_, _++_}
 use Prim.Native.Nat.{ℕ, _/_, _%_, _≤_, _<_}
 use Rattle.network.specs.Mask.{joinBelow}
@@ -12,8 +11,7 @@ use Rattle.plan.specs.declared.Refusal.the-variants as refusal
 use Rattle.plan.specs.Refusal.{refusalNumber}
 use Rattle.plan.specs.Plan.{letterAt, constraintAt}
 use Rattle.plan.specs.WellFormed.{FineHead, FineConstraint}
-use Rattle.frame.specs.Frame.{Bytes}
-use Rattle.frame.specs.ReadFrame.{whole}
+use Rattle.frame.specs.Frame.{Bytes, Begins}
 use Rattle.plan_text.specs.PlanText.{headText, letterText, constraintText}
 
 -- ---- the frames before it
@@ -51,13 +49,13 @@ ConstraintBytes c = Bytes (c .from ∷ c .to ∷ c .bound / 256 ∷ c .bound % 2
 -- of its values. Before it stand fine frames of a plan p; whatever follows is in `rest`, of which nothing more is asked.
 pub data FirstFault : List ℕ → ℕ → Type 0 where
   -- 1: the text does not begin with a head
-  in-head-frame : (rest : List ℕ) → whole 1 5 rest ≡ false → FirstFault rest (refusalNumber refusal.PlanText)
+  in-head-frame : (rest : List ℕ) → ¬ Begins 1 4 rest → FirstFault rest (refusalNumber refusal.PlanText)
   -- 2: it does, with a value outside its range
   in-head-values :
       (p : Plan) (rest : List ℕ) → HeadBytes p → ¬ FineHead p → FirstFault (headText p ++ rest) (refusalNumber refusal.Head)
   -- 1: behind i letters of more stands none
   in-letter-frame :
-      (p : Plan) (i : ℕ) (rest : List ℕ) → FineFront p i 0 → i < p .letters → whole 2 4 rest ≡ false →
+      (p : Plan) (i : ℕ) (rest : List ℕ) → FineFront p i 0 → i < p .letters → ¬ Begins 2 3 rest →
       FirstFault (frontText p i 0 ++ rest) (refusalNumber refusal.PlanText)
   -- 3: one does, number k, which is out of order or not fine
   in-letter-values :
@@ -65,7 +63,7 @@ pub data FirstFault : List ℕ → ℕ → Type 0 where
       ¬ ((k ≡ i) × FineLetter p i l) → FirstFault (frontText p i 0 ++ letterText k l ++ rest) (refusalNumber refusal.Letters)
   -- 1: behind all letters and j constraints of more stands none
   in-constraint-frame :
-      (p : Plan) (j : ℕ) (rest : List ℕ) → FineFront p (p .letters) j → j < p .constraints → whole 3 7 rest ≡ false →
+      (p : Plan) (j : ℕ) (rest : List ℕ) → FineFront p (p .letters) j → j < p .constraints → ¬ Begins 3 6 rest →
       FirstFault (frontText p (p .letters) j ++ rest) (refusalNumber refusal.PlanText)
   -- 4: one does, which is not fine
   in-constraint-values :
