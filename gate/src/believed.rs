@@ -29,33 +29,31 @@ pub struct Statement<'a> {
 }
 
 /// The statements, in the order in which they are read.
-pub const STATEMENTS: [Statement; 5] = [
+pub const STATEMENTS: [Statement; 6] = [
     Statement { title: "Demand 1", word: "demand 1", roots: &[("demands", "Demand1", "Demand1")] },
     Statement { title: "Demand 2", word: "demand 2", roots: &[("demands", "Demand2", "Demand2")] },
     Statement { title: "Demand 3", word: "demand 3", roots: &[("demands", "Demand3", "Demand3")] },
     Statement {
-        title: "The verdict and the screen",
+        title: "Fixed outcomes and the screen",
         word: "the verdict",
-        roots: &[("verdict", "Says", "Says"), ("network", "Fixed", "PassesScreen")],
+        roots: &[("demands", "FixedOutcomes", "FixedOutcomes")],
     },
-    // what the contracts of the calls say of what the code hands back
+    // what the cases of answers mean of which no demand speaks, but only contracts
     Statement {
-        title: "How the code's answers are read",
+        title: "How further answers of the code are read",
         word: "the contracts",
         roots: &[
-            ("plan", "Refusal", "judgedNumber"),
             ("frame", "Written", "writtenAnswer"),
             ("plan_text", "PlanRead", "planReadAnswer"),
             ("tree_text", "TreeRead", "treeReadAnswer"),
-            ("verdict", "Answers", "verdictAnswer"),
-            ("verdict", "Answers", "screenAnswer"),
-            ("search", "Searched", "searchedAnswer"),
-            ("run", "Told", "shownTold"),
-            ("run", "Told", "reportedAnswer"),
-            ("following", "Following", "callsIn"),
             ("following", "Following", "followedRecord"),
             ("answer_text", "Holding", "holding"),
         ],
+    },
+    Statement {
+        title: "The library",
+        word: "the library",
+        roots: &[("tureenlark", "LibraryDemands", "LibraryDemands")],
     },
 ];
 

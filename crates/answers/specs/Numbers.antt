@@ -1,4 +1,5 @@
--- Definitions: the answer of a call as one number. To be believed, for the library only.
+-- Definitions: the answer of a call as one number. Computed: pinned by `library-demands` of
+-- tureenlark/proofs/LibraryTheorem.antt.
 use mathlib.Core.Bool.{Bool, cond}
 use Prim.Native.Nat.{ℕ, _+_}
 use lib.Dec.{eqb}

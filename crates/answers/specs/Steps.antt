@@ -1,4 +1,5 @@
--- Definitions: what a crew is told, and a step that it followed, as bytes. To be believed, for the library only.
+-- Definitions: what a crew is told, and a step that it followed, as bytes. Computed: pinned by `library-demands` of
+-- tureenlark/proofs/LibraryTheorem.antt.
 use mathlib.Core.List.{List, [], _∷_}
 use Prim.Native.Nat.{ℕ}
 use Rattle.run.specs.Told.{Told, instruct, complete, refuse}

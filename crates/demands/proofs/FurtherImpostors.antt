@@ -1,6 +1,6 @@
--- Impostors: checkers, readers, writers and verdicts that document 01 won't take. None meets demand 2, or what document 01 says of fixed
--- outcomes, or demand 1; a comment says which clause each one breaks. Read the planners and the statements; only the checker need believe
--- the proofs.
+-- Impostors: checkers, readers, writers and a verdict that document 01 won't take, and more. None meets demand 2, or the verdict what document
+-- 01 says of fixed outcomes; a comment says which clause each one breaks. Read the planners and the statements; only the checker need
+-- believe the proofs.
 use mathlib.Core.Path.{_≡_, refl, sym, ap, _∙_}
 use mathlib.Core.Bool.{cond}
 use mathlib.Core.List.{List, [], _∷_, _++_}

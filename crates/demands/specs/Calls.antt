@@ -1,5 +1,5 @@
--- Definitions: what each call has to answer, and to leave in a buffer that is lent to it, for whatever is handed in: document 01's "Who gets
--- which number", call by call.
+-- Definitions: what each call has to answer, and to leave in a buffer that is lent to it, for whatever is handed in: document 01's "Who
+-- gets which number", call by call. To be believed, for demand 1, 2.
 use mathlib.Core.Path.{_≡_}
 use mathlib.Core.Logic.{_↔_, _⊎_}
 use mathlib.Core.Bool.{Bool, true, false}

@@ -1,5 +1,5 @@
--- Definitions: crews: the calls that one made over a plan and a tree, with what each call handed back (document 01, "The crew's run"). A
--- reader must believe this file.
+-- Definitions: crews: the calls that one made over a plan and a tree, with what each call handed back (document 01, "The crew's run"). To
+-- be believed, for demand 3.
 use mathlib.Core.Path.{_≡_}
 use mathlib.Core.List.{List, [], _∷_, _++_, map}
 use Prim.Native.Nat.{ℕ}

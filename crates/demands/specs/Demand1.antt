@@ -1,6 +1,7 @@
 -- Demand 1, as one statement about a planner: whatever is handed in gets a result or a refusal by one of the numbers that document 01 gives
 -- the call, in its order, and every lent byte afterwards is as it says. proofs/Demand1Theorem.antt proves it of this planner. (None of its
--- calls has a `requires`, and each contract equates the whole answer and every lent byte with the planner's definitions.)
+-- calls has a `requires`, and each contract equates the whole answer and every lent byte with the planner's definitions.) To be believed,
+-- for demand 1.
 use mathlib.Core.Path.{_≡_}
 use mathlib.Core.List.{List}
 use Prim.Native.Nat.{ℕ, _≤_}

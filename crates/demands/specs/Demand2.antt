@@ -1,6 +1,6 @@
--- Demand 2, as one statement about a planner: texts read back exactly, each with one text only; the checker says yes exactly for well-formed
--- trees whose strategy is dynamic and viable. proofs/Demand2Theorem.antt proves it of this planner,
--- proofs/Impostors.antt refutes it of others.
+-- Demand 2, as one statement about a planner: texts read back exactly, each with one text only; the checker says yes exactly for
+-- well-formed trees whose strategy is dynamic and viable. proofs/Demand2Theorem.antt proves it of this planner,
+-- proofs/FurtherImpostors.antt refutes it of others. To be believed, for demand 2.
 use mathlib.Core.Path.{_≡_}
 use mathlib.Core.Logic.{_↔_}
 use mathlib.Core.Bool.{true}

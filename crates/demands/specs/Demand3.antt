@@ -1,7 +1,7 @@
 -- Demand 3, as one statement about a planner: hopeless exactly where no strategy is dynamic and viable, else the tree of first moves, and
 -- the run over every list of calls. It is said of the values that `search`, `show` and `report` hand back where their contracts cite the
--- planner's definitions. A reader must believe this file, to be held beside document 01's "The crew's run". proofs/Demand3Theorem.antt proves
--- it of this planner, proofs/Impostors.antt refutes it of others.
+-- planner's definitions, in the words of document 01's "The crew's run". proofs/Demand3Theorem.antt proves it of this planner,
+-- proofs/Impostors.antt refutes it of others. To be believed, for demand 3.
 use mathlib.Core.Path.{_≡_}
 use mathlib.Core.Logic.{_↔_}
 use mathlib.Core.List.{List}

@@ -1,6 +1,6 @@
--- Document 01, "Fixed outcomes and the screen", as one statement about a planner, over what `least_schedule` and `screen_plan` hand back where
--- their contracts cite the planner's definitions. A reader must believe this file, for the verdict and the screen;
--- proofs/FixedOutcomesTheorem.antt proves it of this planner, proofs/Impostors.antt refutes it of others.
+-- Document 01, "Fixed outcomes and the screen", as one statement about a planner, over what `least_schedule` and `screen_plan` hand back
+-- where their contracts cite the planner's definitions. proofs/FixedOutcomesTheorem.antt proves it of this planner,
+-- proofs/FurtherImpostors.antt refutes it of another. To be believed, for the verdict only.
 use mathlib.Core.Path.{_≡_}
 use mathlib.Core.Logic.{_↔_}
 use Prim.Native.Nat.{ℕ}

@@ -1,4 +1,4 @@
--- Definitions: what answers the calls of document 01. The demands are of any such planner. A reader must believe this file.
+-- Definitions: what answers the calls of document 01. The demands are of any such planner. To be believed, for demand 1, 2, 3.
 use mathlib.Core.Bool.{Bool}
 use mathlib.Core.List.{List}
 use Prim.Native.Nat.{ℕ}

@@ -1,5 +1,5 @@
--- Definitions: this planner: for each call the definitions that its contract cites. A reader holds it beside the contracts; what the
--- definitions say is pinned by `demand1`, `demand2`, `fixed-outcomes` and `demand3`.
+-- Definitions: this planner: for each call the definitions that its contract cites, to be held beside the contracts. `demand2`,
+-- `fixed-outcomes` and `demand3` are of it too. Computed: pinned by `demand1` of demands/proofs/Demand1Theorem.antt.
 use Rattle.frame.specs.Texts.{refusalText}
 use Rattle.judge.specs.Judge.{planFault}
 use Rattle.plan_text.specs.WritePlan.{writePlan, writePlanLeaves}

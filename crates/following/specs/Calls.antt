@@ -1,4 +1,4 @@
--- Definitions: a crew's list of calls over one plan and tree (document 01, "The crew's run"). To be believed, for demand 1.
+-- Definitions: a crew's list of calls over one plan and tree (document 01, "The crew's run"). To be believed, for demand 1, 2, 3.
 use mathlib.Core.List.{List, [], _∷_, _++_}
 use Prim.Native.Nat.{ℕ, zero, suc}
 use Rattle.network.specs.Crew.{Step}

@@ -1,4 +1,4 @@
--- Definitions: a list of calls as bytes, and the record of what following it leaves. To be believed, for the contracts only.
+-- Definitions: a list of calls as bytes, and the record of what following it leaves. To be believed, for demand 1.
 use mathlib.Core.List.{List, [], _∷_, _++_, map}
 use Prim.Native.Nat.{ℕ, zero, suc, _-_}
 use lib.ListN.{length, replicate}

@@ -1,5 +1,5 @@
 -- Definitions: a crew: the steps that it followed; what it performed and set by them, what it heard and was told. To be believed, for
--- demand 3.
+-- demand 1, 2, 3.
 use mathlib.Core.Path.{_≡_}
 use mathlib.Core.Logic.{_↔_, _⊎_}
 use mathlib.Core.List.{List, [], _∷_}

@@ -1,4 +1,4 @@
--- Definitions: "can still be won", the order of moves, and document 01's tree of first moves. To be believed, for demand 3.
+-- Definitions: "can still be won", the order of moves, and document 01's tree of first moves. To be believed, for demand 1, 3.
 use mathlib.Core.Path.{_≡_}
 use mathlib.Core.Logic.{_⊎_}
 use Prim.Native.Nat.{ℕ, _<_}

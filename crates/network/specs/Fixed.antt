@@ -1,4 +1,4 @@
--- Document 01, "Fixed outcomes and the screen": schedules under one setting of all letters. To be believed, for the verdict only.
+-- Document 01, "Fixed outcomes and the screen": schedules under one setting of all letters. To be believed, for demand 1.
 use mathlib.Core.Path.{_≡_}
 use mathlib.Core.Bool.{true}
 use Prim.Native.Nat.{ℕ, _≤_, _<_}

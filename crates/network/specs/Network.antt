@@ -1,4 +1,4 @@
--- Definitions 1 to 5 of the paper (document 000): label, network, scenario, projection, schedule. To be believed, for demand 2, 3.
+-- Definitions 1 to 5 of the paper (document 000): label, network, scenario, projection, schedule. To be believed, for demand 1, 2, 3.
 use mathlib.Core.Bool.{Bool, true, not, cond, _&&_, _||_, Bool·beq}
 use mathlib.Core.List.{List, [], _∷_}
 use Prim.Native.Nat.{ℕ, suc, _+_}

@@ -1,6 +1,6 @@
 -- Definitions 6 to 9 of the paper (document 000): strategy, viable, history, dynamic, consistent. Document 01's two readings: times are
 -- whole slots from 0 to the horizon, both included; in Definition 6 "every condition scenario" ranges over the set of condition scenarios.
--- To be believed, for demand 2, 3.
+-- To be believed, for demand 1, 2, 3.
 use mathlib.Core.Path.{_≡_}
 use mathlib.Core.Logic.{_↔_}
 use mathlib.Core.Bool.{Bool, true}

@@ -1,4 +1,5 @@
--- Definitions: strategy trees, what makes one sound, the strategy that one describes, its nodes in order. To be believed, for demand 2, 3.
+-- Definitions: strategy trees, what makes one sound, the strategy that one describes, its nodes in order. To be believed, for demand 1, 2,
+-- 3.
 use mathlib.Core.Bool.{_&&_}
 use Prim.Native.Nat.{ℕ}
 use mathlib.Core.List.{List, [], _∷_}

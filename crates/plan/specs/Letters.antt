@@ -1,5 +1,5 @@
 -- Definitions: the conditions that points disclose, as a mask of the six letters that a plan record has room for. To be believed, for
--- demand 3.
+-- demand 1, 3.
 use Prim.Native.Nat.{ℕ}
 use Rattle.network.specs.Mask.{mask}
 use Rattle.network.specs.Network.{conditionAt}

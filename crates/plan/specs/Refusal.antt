@@ -1,4 +1,4 @@
--- Definitions: document 01's number of each refusal. Nothing else in the definitions says these numbers. To be believed, for demand 3.
+-- Definitions: document 01's number of each refusal. Nothing else in the definitions says these numbers. To be believed, for demand 1, 3.
 use Prim.Native.Nat.{ℕ}
 use Rattle.plan.specs.declared.Refusal.{Refusal}
 use Rattle.plan.specs.declared.Refusal.the-variants as refusal

@@ -1,4 +1,4 @@
--- Definitions: a well-formed plan, in document 01's words ("The plan"). A reader must believe this file.
+-- Definitions: a well-formed plan, in document 01's words ("The plan"). To be believed, for demand 1, 2, 3.
 use mathlib.Core.Path.{_≡_}
 use mathlib.Core.Bool.{true}
 use Prim.Native.Nat.{ℕ, suc, _≤_, _<_}

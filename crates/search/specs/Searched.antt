@@ -1,4 +1,4 @@
--- Definitions: number and value of each case of what the search hands back. To be believed, for the contracts only.
+-- Definitions: number and value of each case of what the search hands back. To be believed, for demand 3.
 use Prim.Native.Nat.{ℕ}
 use Rattle.plan.specs.Answer.{Answer, fine, refused}
 use Rattle.search.specs.declared.Searched.{Searched}

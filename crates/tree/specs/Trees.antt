@@ -1,4 +1,4 @@
--- Definitions: the bytes of a strategy tree, and which bytes describe one. To be believed, for demand 2, 3.
+-- Definitions: the bytes of a strategy tree, and which bytes describe one. To be believed, for demand 1, 2, 3.
 use mathlib.Core.Path.{_≡_}
 use mathlib.Core.List.{List, [], _∷_, _++_}
 use Prim.Native.Nat.{ℕ}

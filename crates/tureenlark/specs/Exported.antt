@@ -1,5 +1,5 @@
--- Definitions: what the exported calls answer, and leave in the buffers lent to them, and how their numbers and bytes are read. Names follow
--- the exported functions.
+-- Definitions: what the exported calls answer, and leave in the buffers lent to them, and how their numbers and bytes are read. Names
+-- follow the exported functions. To be believed, for the library only.
 use mathlib.Core.Bool.{cond}
 use mathlib.Core.List.{List, [], _∷_}
 use Prim.Native.Nat.{ℕ, zero, suc, _-_}

@@ -1,4 +1,4 @@
--- Definitions: the modules of this folder, in the order in which they are read. A reader must believe them.
+-- Definitions: the modules of this folder, in the order in which they are read.
 pub mod Library
 pub mod Exported
 pub mod ThisLibrary

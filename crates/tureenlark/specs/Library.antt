@@ -1,5 +1,5 @@
--- Definitions: what each exported call answers and leaves in the buffers lent to it, for buffers of any length and contents. A reader must
--- believe this file. Names follow the exported functions.
+-- Definitions: what each exported call answers and leaves in the buffers lent to it, for buffers of any length and contents. Names follow the
+-- exported functions. Computed: pinned by `library-demands` of tureenlark/proofs/LibraryTheorem.antt.
 use mathlib.Core.Bool.{cond}
 use mathlib.Core.List.{List}
 use Prim.Native.Nat.{ℕ}

@@ -1,5 +1,6 @@
--- Demands 1, 2 and 3 of the exported calls, over buffers of any length and contents, as one statement about a library. It speaks of the bytes
--- that a program hands over and gets back. proofs/LibraryTheorem.antt proves it of this library.
+-- Demands 1, 2 and 3 of the exported calls, over buffers of any length and contents, as one statement about a library. It speaks of the
+-- bytes that a program hands over and gets back. proofs/LibraryTheorem.antt proves it of this library. To be believed, for the library
+-- only.
 use mathlib.Core.Path.{_≡_}
 use mathlib.Core.Logic.{_↔_, _⊎_}
 use mathlib.Core.List.{List, [], _∷_, _++_}

@@ -1,4 +1,5 @@
--- Definitions: this library: for each exported call the definitions that its contract cites. A reader holds it beside the contracts.
+-- Definitions: this library: for each exported call the definitions that its contract cites, to be held beside the contracts. Computed: pinned
+-- by `library-demands` of tureenlark/proofs/LibraryTheorem.antt.
 use Rattle.tree_text.specs.ReadTree.{readTreeLeaves}
 use Rattle.tree_text.specs.WriteTree.{writeTreeLeaves}
 use Rattle.tureenlark.specs.Exported.{Exported}

@@ -1,5 +1,5 @@
 -- Definitions: what a verdict says, and number and values of each case of what the verdict and the screen hand back. To be believed, for
--- demand 1, 2.
+-- demand 1, 2, 3.
 use mathlib.Core.Bool.{Bool, true, false}
 use mathlib.Core.List.{List}
 use Prim.Native.Nat.{ℕ}

@@ -1,5 +1,5 @@
 -- Definitions: what a verdict has to say of a well-formed plan under a setting of all its letters, in document 01's words ("Fixed outcomes
--- and the screen"). To be believed, for the verdict only.
+-- and the screen"). To be believed, for the verdict and the library only.
 use mathlib.Core.Path.{_≡_}
 use mathlib.Core.List.{List}
 use Prim.Native.Nat.{ℕ, _≤_}
