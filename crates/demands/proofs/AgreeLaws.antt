@@ -97,6 +97,7 @@ module _ (R S : Run) (p : Plan) (tree : List ℕ) (agree : Agrees R S p tree) wh
       let all = every (crew-of crew) in
       record {
         holds-reports = all .holds-reports;
+        each-follows = all .each-follows;
         at-most-8 = all .at-most-8;
         told-by-rule = all .told-by-rule;
         goes-on = λ n.

@@ -23,13 +23,12 @@ use Rattle.following.specs.declared.Followed.{Followed}
 use Rattle.following.specs.Calls.{Run, Call, reporting, Progress, begun, afterCall, afterCalls}
 use Rattle.following.specs.ThisRun.{theRun}
 use Rattle.following.specs.Following.{zeroStep, stepRecord, followedRecord, callsIn}
-use Rattle.demands.specs.ThisPlanner.{planner}
-use Rattle.demands.specs.Crews.{Made, showed, reported, Answered, heldAfter, Crew, historyHeld, stepsFollowed, Done}
-use Rattle.demands.specs.Demand3.{SearchedBy}
+use Rattle.demands.specs.Planner.{Planner}
+use Rattle.demands.specs.Crews.{AlwaysAnswers, Made, showed, reported, Answered, heldAfter, Crew, historyHeld, stepsFollowed, Done}
+use Rattle.demands.specs.Demand3.{SearchedBy, Demand3For, Demand3}
 use Rattle.demands.proofs.ListLaws.{historyAfter, toldAfter, ListDone, Lengthened, EveryList}
 use Rattle.demands.proofs.MadeLaws.{callMade, callsOf, told-is, says-done}
 use Rattle.demands.proofs.SaidLaws.{run-said, made, made-answered, made-calls, crewOf, held-is, followed-are, list-of}
-use Rattle.demands.proofs.Demand3Theorem.{demand3}
 
 -- ---- a list of calls is brought to done
 
@@ -91,39 +90,47 @@ module _ (R : Run) (p : Plan) (tree : List ℕ) where
   answered-append h (showed says ∷ calls) more (s, y) z = (s, answered-append h calls more y z)
   answered-append h (reported o says a ∷ calls) more (s, r, y) z = (s, r, answered-append (a .history) calls more y z)
 
--- ---- Whatever was called, some calls more, at most 8, bring the run to done. So parts 5 and 6 are not empty.
+-- ---- Of any planner that meets demand 3: whatever was called, some calls more, at most 8, bring the run to done. So parts 5 and 6 are not
+-- empty.
 
 module _
-    (p : Plan) (lent : List ℕ) (wf : WellFormed p) (room : mostBytes ≤ length lent) (r : Searched) (left : List ℕ)
-    (by : SearchedBy planner p lent r left) (n : ℕ) (e : r ≡ searched.Nodes n) where
+    (P : Planner) (demand : Demand3 P) (p : Plan) (lent : List ℕ) (wf : WellFormed p) (room : mostBytes ≤ length lent) (r : Searched)
+    (left : List ℕ) (by : SearchedBy P p lent r left) (n : ℕ) (e : r ≡ searched.Nodes n) where
   abbrev pub tree : List ℕ
   tree = firstNodes left n
 
-  every : (calls : List Call) → EveryList theRun p tree calls
-  every calls =
-      list-of theRun p tree (run-said p tree) calls
-      (demand3 p lent wf room r left by .every-crew n e (crewOf theRun p tree (run-said p tree) calls))
+  abbrev R : Run
+  R = P .run
+
+  promise : Demand3For R p lent r left
+  promise = demand p lent wf room .1 r left by
+
+  said : AlwaysAnswers R p tree
+  said = promise .always-answers n e
+
+  every : (calls : List Call) → EveryList R p tree calls
+  every calls = list-of R p tree said calls (promise .every-crew n e (crewOf R p tree said calls))
 
   pub can-be-finished :
-      (crew : Crew theRun p tree) → (more : List Made) × (crew′ : Crew theRun p tree)
+      (crew : Crew R p tree) → (more : List Made) × (crew′ : Crew R p tree)
       × (crew′ .calls ≡ crew .calls ++ more) × Done crew′ × (length more ≤ 8)
   can-be-finished crew =
-      let said = run-said p tree in
-      let first = callsOf theRun p tree crew in
-      let (more, done, few) = finish theRun p tree every 8 first (omega arith) in
-      let then = made theRun p tree said (historyHeld crew) more in
+      let first = callsOf R p tree crew in
+      let (more, done, few) = finish R p tree every 8 first (omega arith) in
+      let then = made R p tree said (historyHeld crew) more in
       let h = heldAfter emptyHistory (crew .calls ++ then) in
-      let crew′ : Crew theRun p tree = record {
+      let crew′ : Crew R p tree = record {
         calls = crew .calls ++ then;
-        answered = answered-append theRun p tree emptyHistory (crew .calls) then (crew .answered) (made-answered theRun p tree said (historyHeld crew) more);
+        answered = answered-append R p tree emptyHistory (crew .calls) then (crew .answered)
+            (made-answered R p tree said (historyHeld crew) more);
         says = said .shows h .0;
         told = said .shows h .1;
       } in
-      let then-is = made-calls theRun p tree said (historyHeld crew) more in
-      let calls-are : callsOf theRun p tree crew′ ≡ first ++ more =
+      let then-is = made-calls R p tree said (historyHeld crew) more in
+      let calls-are : callsOf R p tree crew′ ≡ first ++ more =
       map-append callMade (crew .calls) then ∙ ap (λ (l : List Call). first ++ l) then-is in
       let as-many : length then ≡ length more = sym (length-map then callMade) ∙ ap length then-is in
-      let complete-then = sym (told-is theRun p tree crew′) ∙ ap (toldAfter theRun p tree) calls-are ∙ done in
+      let complete-then = sym (told-is R p tree crew′) ∙ ap (toldAfter R p tree) calls-are ∙ done in
       (then, crew′, refl, says-done (crew′ .says) complete-then, omega arith)
 
 -- ---- What `follow` hands back, by its contract, from the empty history on: the history and the steps of a crew. So all that demand 3 says of

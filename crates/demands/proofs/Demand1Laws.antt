@@ -29,7 +29,7 @@ use Rattle.tree.specs.Nodes.{nodeAt}
 use Rattle.tree.specs.Parts.{fromNode, moveOf}
 use Rattle.run.specs.Run.{nodesBefore, toldHere, toldFrom, unlessFault, reportFault}
 use Rattle.run.specs.Told.{Told, instruct, complete, refuse, mayReport}
-use Rattle.demands.specs.Calls.{OneOf, Fills}
+use Rattle.demands.specs.EachCall.{OneOf, Fills}
 
 -- ---- one of some numbers
 
@@ -190,6 +190,12 @@ refusal-said n (inr (inr (inr (inr (inl e))))) = (refusal.Broken, sym e)
 refusal-said n (inr (inr (inr (inr (inr (inl e)))))) = (refusal.Mask, sym e)
 refusal-said n (inr (inr (inr (inr (inr (inr (inl e))))))) = (refusal.AfterDone, sym e)
 refusal-said n (inr (inr (inr (inr (inr (inr (inr none))))))) = absurd none
+
+-- a number of theirs that is not 0 is a refusal's
+pub some-refusal : (n : ℕ) → OneOf (0 ∷ crewNumbers) n → ¬ (n ≡ 0) → (r : Refusal) × (refusalNumber r ≡ n)
+unfolding OneOf
+some-refusal n (inl e) some = absurd (some e)
+some-refusal n (inr h) some = refusal-said n h
 
 abbrev pub Numbered : Told → Type 0
 Numbered (instruct m) = Unit {0}

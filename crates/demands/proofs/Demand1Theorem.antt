@@ -1,7 +1,7 @@
 -- Theorem: demand 1. Read the statement in specs/Demand1.antt; only the checker need believe the proof.
 use mathlib.Core.Path.{_≡_, refl, sym, ap, _∙_, subst}
 use mathlib.Core.Logic.{_↔_, inl, inr, ⊎-elim, by-cases}
-use mathlib.Core.Bool.{true}
+use mathlib.Core.Bool.{true, false}
 use mathlib.Core.List.{List, [], _∷_, _++_, append-nil}
 use Prim.Native.Nat.{ℕ, _*_, _^_, _≤_, _<_}
 use native.Mathlib.Omega.{arith}
@@ -13,11 +13,11 @@ use Rattle.network.specs.Tree.{Tree}
 use Rattle.network.specs.Fixed.{Setting}
 use Rattle.network.specs.Search.{firstTree}
 use Rattle.network.proofs.Theorems.{consistent-decided}
-use Rattle.network.proofs.Booleans.{by-test, leb-is, eqb-is, eqb-no, differs, false-exactly}
+use Rattle.network.proofs.Booleans.{by-test, clash, leb-is, eqb-is, eqb-no, differs, false-exactly}
 use Rattle.plan.specs.declared.Plan.{Plan}
 use Rattle.plan.specs.declared.Refusal.the-variants as refusal
 use Rattle.plan.specs.Answer.{Answer, fine}
-use Rattle.plan.specs.Faults.{unless, answered, filled}
+use Rattle.plan.specs.Faults.{unless, answered, filled, first}
 use Rattle.plan.specs.Plan.{networkOf}
 use Rattle.plan.specs.WellFormed.{WellFormed}
 use Rattle.plan.proofs.PlanTheorems.{is-network}
@@ -33,19 +33,18 @@ use Rattle.plan_text.specs.PlanText.{planText}
 use Rattle.plan_text.specs.WritePlan.{writePlan, writePlanLeaves}
 use Rattle.plan_text.specs.ReadPlan.{readPlan}
 use Rattle.plan_text.proofs.RefusedLaws.{refused}
-use Rattle.plan_text.specs.FirstFault.{FirstFault, in-head-frame, in-head-values, in-letter-frame, in-letter-values}
-use Rattle.plan_text.specs.FirstFault.{in-constraint-frame, in-constraint-values, extra}
-use Rattle.plan_text.proofs.PlanTextTheorems.{refused-exactly}
+use Rattle.plan_text.proofs.PlanTextTheorems.{refused-exactly, read-exactly as read-plan-exactly}
 use Rattle.tree_text.specs.TreeText.{treeText}
 use Rattle.tree_text.specs.WriteTree.{writeTree, writeTreeLeaves}
 use Rattle.tree_text.specs.ReadTree.{readNodes, bytesIn, readTree, readTreeLeaves}
 use Rattle.tree_text.proofs.TreeTextTheorems.{read-exactly, whatever-reads, refused-with-five}
 use Rattle.checker.specs.Checker.{treeFault, checkFault}
+use Rattle.checker.proofs.FaultLaws.{described-legal}
 use Rattle.checker.proofs.CheckerTheorems.{six-exactly, seven-exactly, yes-six-or-seven, plan-first}
 use Rattle.search.specs.Search.{searchFault, searchAnswer, searchLeaves}
 use Rattle.search.proofs.AnswerLaws.{by-fault, answered-so}
 use Rattle.search.proofs.SearchTheorems.{leaves-tree, front-is-tree, checker-yes, hopeless-leaves, refused-stays, past-stays}
-use Rattle.search.proofs.SearchTheorems.{fault-is, ten-exactly, only-bytes, eleven-exactly, fine-exactly as search-fine-exactly}
+use Rattle.search.proofs.SearchTheorems.{fault-is, ten-exactly, only-bytes, eleven-exactly, fine-exactly as search-fine-exactly, refused-zero as search-refused-zero, first-moves}
 use Rattle.search.proofs.SearchTheorems.{plan-first as search-plan-first}
 use Rattle.run.specs.declared.History.{History}
 use Rattle.run.specs.Run.{showAnswer, reportFault, reportAnswer}
@@ -58,14 +57,14 @@ use Rattle.following.specs.Calls.{Call, showing, reporting, Progress, begun, st
 use Rattle.following.specs.ThisRun.{theRun}
 use Rattle.following.specs.Following.{callsIn}
 use Rattle.following.proofs.FollowLaws.{no-step-refused}
-use Rattle.verdict.specs.Verdict.{verdictFault, verdictOf, leastSchedule, screened}
+use Rattle.verdict.specs.Verdict.{verdictFault, verdictOf, leastSchedule, screened, passes}
 use Rattle.verdict.specs.Answers.{Fixed, none}
 use Rattle.verdict.proofs.AnswerLaws.{eight-answer, screen-plan-fault, fine-answer, mask-fault}
 use Rattle.answer_text.specs.AnswerText.{answerText}
 use Rattle.answer_text.proofs.AnswerTextTheorems.{Says, prints-tree, prints-hopeless, tree-legal, by-input}
 use Rattle.demands.specs.ThisPlanner.{planner}
-use Rattle.demands.specs.Calls.{Sized, OneOf, Fills, SaysTree, AnswersJudge, AnswersReadPlan, AnswersWritePlan, AnswersReadTree}
-use Rattle.demands.specs.Calls.{AnswersWriteTree, AnswersCheck, AnswersSearch, AnswersShow, AnswersReport, AnswersVerdict, AnswersProgram}
+use Rattle.demands.specs.EachCall.{Sized, OneOf, Fills, SaysTree, AnswersJudge, AnswersReadPlan, AnswersWritePlan, AnswersReadTree}
+use Rattle.demands.specs.EachCall.{AnswersWriteTree, AnswersCheck, AnswersSearch, AnswersShow, AnswersReport, AnswersVerdict, AnswersScreen, AnswersProgram}
 use Rattle.demands.specs.Demand1.{Demand1}
 use Rattle.demands.proofs.Demand1Laws.{one-of, one-of-more, one-between, first-one, unless-one, unless-exactly, unless-yes, long-enough}
 use Rattle.demands.proofs.Demand1Laws.{short-exactly, first-exactly, first-zero, first-some, by-plan, plan-one, stays}
@@ -93,6 +92,9 @@ read-plan-so t =
     record {
       numbers = one-of-more _ _ _ refl (one-between 0 5 (readPlan t .fault) (omega arith) (omega (arith, refused t .0)));
       first = refused-exactly t;
+      read = λ e.
+          let (text, wf, six, sixty-four) = read-plan-exactly t (readPlan t .value) .0 (λ i. record { fault = e i; value = readPlan t .value }) in
+          ((six, sixty-four), wf, text);
       zero-place = refused t .1;
     }
 
@@ -106,6 +108,7 @@ write-plan-so p xs =
       numbers = λ wf. write-one fault text xs _ refl (one-of _ 0 refl (fine-exactly p .1 wf));
       room = λ wf. write-room fault text xs (fine-exactly p .1 wf);
       counted = write-length fault text xs;
+      beside = answered-zero 0 (first fault (roomFault text xs)) (length text);
       bytes = write-fills fault text xs;
     }
 
@@ -167,6 +170,10 @@ tree-text t xs long =
           none (bytesIn n t, record { text = text .0; bytes = text .2; legal = text .3 }))),
     )
 
+tree-read-zero : (t xs : List ℕ) → ¬ (readTree t xs .fault ≡ 0) → readTree t xs .value ≡ 0
+unfolding readTree
+tree-read-zero t xs = answered-zero 0 _ (readNodes t .value)
+
 read-tree-so : (t xs : List ℕ) → AnswersReadTree t xs (readTree t xs) (readTreeLeaves t xs)
 read-tree-so t xs =
     record {
@@ -174,7 +181,7 @@ read-tree-so t xs =
       room = tree-room t xs;
       text = tree-text t xs;
       read = λ e. let (says, long, fills) = tree-read t xs e in (bytesIn (readTree t xs .value) t, says, long, fills);
-      refused = stays (readTree t xs .fault) (bytesIn (readTree t xs .value) t) xs;
+      refused = λ some. (tree-read-zero t xs some, stays (readTree t xs .fault) (bytesIn (readTree t xs .value) t) xs some);
     }
 
 -- ---- writing one
@@ -199,6 +206,7 @@ write-tree-so bs xs =
       shape = (λ e. six .0 (first-six .0 e), λ z. first-six .1 (six .1 z));
       room = λ y. write-room shape text xs (unless-yes legal refusal.Shape y);
       counted = write-length shape text xs;
+      beside = answered-zero 0 (first shape (roomFault text xs)) (length text);
       bytes = write-fills shape text xs;
     }
 
@@ -227,6 +235,7 @@ check-so p bs =
     record {
       judged = λ n. judged-as p _ (plan-first p bs n);
       numbers = λ wf. ⊎-elim (one-of _ 0 refl) (⊎-elim (one-of _ 6 refl) (one-of _ 7 refl)) (yes-six-or-seven p wf bs);
+      length-first = λ wf z. check-shape-so p bs wf .1 (λ (t, d). clash (described-legal p wf bs t d) z);
       shape = check-shape-so p bs;
       broken = λ wf. seven-exactly p wf bs;
     }
@@ -289,6 +298,7 @@ search-so p xs =
           let long = ap length (sym is-tree) ∙ answered-so p xs fine .three-each in
           let yes = subst (AnswersCheck p bs) (checker-yes p xs fine) (check-so p bs) in
           (bs, refl, long, yes, leaves-tree p xs fine ∙ ap (λ (x : List ℕ). overwritten x xs) is-tree);
+      beside = λ some. search-refused-zero p xs (λ e. some (is ∙ e));
       hopeless = λ e. hopeless-leaves p xs (sym is ∙ e);
       refused = λ n m. refused-stays p xs (λ e. n (is ∙ e)) (λ e. m (is ∙ e));
       past = past-stays p xs;
@@ -412,47 +422,40 @@ verdict-so p values =
       zeros = eight-answer p values .zeros;
     }
 
+-- ---- the screen
+
+screen-so : (p : Plan) → AnswersScreen p (screened p)
+unfolding screened
+screen-so p =
+    record {
+      judged = subst (AnswersJudge p) (sym (screen-plan-fault p)) (judge-so p);
+      beside = answered-zero false (planFault p) (passes p);
+    }
+
 -- ---- the program
 
 -- a buffer for the search
 abbrev blank : List ℕ
 blank = replicate mostBytes 0
 
--- no faulty frame has the number 0
-first-fault-some : (t : List ℕ) (n : ℕ) → FirstFault t n → ¬ (n ≡ 0)
-first-fault-some t n (in-head-frame rest z) e = omega arith
-first-fault-some t n (in-head-values p rest b bad) e = omega arith
-first-fault-some t n (in-letter-frame p i rest f lt z) e = omega arith
-first-fault-some t n (in-letter-values p i k l rest f lt b bad) e = omega arith
-first-fault-some t n (in-constraint-frame p j rest f lt z) e = omega arith
-first-fault-some t n (in-constraint-values p j c rest f lt b bad) e = omega arith
-first-fault-some t n (extra p c rest f) e = omega arith
-
 program-so : (input : List ℕ) → AnswersProgram input (answerText input)
 unfolding answerText
 program-so input =
-    let t = take 1026 input in
-    let says : (p : Plan) → Sized p → WellFormed p → t ≡ planText p → Says input p = λ p (six, sixty-four) wf e. (e, wf, six, sixty-four) in
-    record {
-      refused = λ n f.
-          let some = first-fault-some t n f in
-          let is = refused-exactly t n some .1 f in
-          rw (is, eqb-no n 0 some);
-      hopeless = λ p sized wf e none. prints-hopeless input p (says p sized wf e) none;
-      tree = λ p sized wf e c tree f.
-          let room : mostBytes ≤ length blank = omega arith in
-          let fine = search-fine-exactly p blank wf room .1 c in
-          prints-tree input p (says p sized wf e) c ∙ ap treeText (sym (only-bytes p blank fine tree f));
-      one-of-these = by-input input
-          (λ p says c e. inl (treeBytes (networkOf p) (firstTree (networkOf p)), tree-legal input p says c, e))
-          (λ p says n e. inr (11, one-of _ 11 refl refl, e))
-          (λ none n low high e. inr (n, one-of-more _ _ _ refl (one-between 1 4 n low (omega arith)), e));
-    }
+    by-input input
+    (λ p says c e.
+    let room : mostBytes ≤ length blank = omega arith in
+    let first-tree = first-moves p blank (search-fine-exactly p blank (says .1) room .1 c) in
+    inr (p, (says .2, says .3), says .1, says .0, inr (c, (firstTree (networkOf p), first-tree, e))))
+    (λ p says n e. inr (p, (says .2, says .3), says .1, says .0, inl (n, e)))
+    (λ none n low high e.
+    let fault = readPlan (take 1026 input) .fault in
+    let some : ¬ (fault ≡ 0) = λ z. none (readPlan (take 1026 input) .value)
+    (read-plan-exactly (take 1026 input) (readPlan (take 1026 input) .value) .0 (λ i. record { fault = z i; value = readPlan (take 1026 input) .value })) in
+    inl (fault, refused-exactly (take 1026 input) fault some .0 refl, rw (eqb-no fault 0 some)))
 
 -- ---- The theorem
 
 pub demand1 : Demand1 planner
-unfolding screened answered
 demand1 =
     record {
       judge = judge-so;
@@ -468,7 +471,7 @@ demand1 =
       follow-few = λ p bs h calls eight.
           all-calls p bs (begun h) (callsIn calls) (record { eight = eight; counted = omega arith; few = omega arith }) .few;
       verdict = verdict-so;
-      screen = λ p. subst (AnswersJudge p) (sym (screen-plan-fault p)) (judge-so p);
+      screen = screen-so;
       refuse-frame = λ r. refl;
       program = program-so;
     }

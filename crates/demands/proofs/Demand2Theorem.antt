@@ -30,7 +30,7 @@ use Rattle.tree_text.proofs.TreeTextTheorems as tree-text
 use Rattle.checker.specs.Checker.{treeFault, checkFault}
 use Rattle.checker.proofs.CheckerTheorems as checker
 use Rattle.demands.specs.ThisPlanner.{planner}
-use Rattle.demands.specs.Calls.{Sized}
+use Rattle.demands.specs.EachCall.{Sized}
 use Rattle.demands.specs.Demand2.{planTextIn, treeTextIn, Demand2}
 use Rattle.demands.proofs.Demand1Laws.{first-zero, long-enough}
 

@@ -30,12 +30,14 @@ use Rattle.search.specs.Search.{searchFault, searchAnswer, searchLeaves}
 use Rattle.search.proofs.AnswerLaws.{answered-so}
 use Rattle.search.proofs.SearchTheorems.{first-moves, only-bytes, count-nodes, leaves-tree, front-is-tree, checker-yes}
 use Rattle.search.proofs.SearchTheorems.{eleven-exactly, fine-exactly, says-refused-exactly, says-nodes-exactly}
+use Rattle.run.specs.History.{emptyHistory}
 use Rattle.following.specs.Calls.{Call}
 use Rattle.following.specs.ThisRun.{theRun}
 use Rattle.demands.specs.ThisPlanner.{planner}
 use Rattle.demands.specs.Demand3.{SearchedBy, Hopeless, Demand3For, Demand3}
 use Rattle.demands.proofs.ListLaws.{EveryList, EveryTwoLists}
 use Rattle.demands.proofs.MadeLaws.{callsOf, crew-so, two-crews-so}
+use Rattle.demands.proofs.SaidLaws.{search-said, run-said, calls-follow}
 use Rattle.demands.proofs.EveryListLaws.{every-list-so, every-two-lists-so}
 
 -- three bytes to a move
@@ -130,8 +132,9 @@ module _ (p : Plan) (lent : List ℕ) (wf : WellFormed p) (room : mostBytes ≤ 
           nobody = λ e. no-policy net is-net (theorems.hopeless-exactly net is-net .1 (hopeless-so .0 e));
           has-tree = λ h. (firstTree net, first-tree (no-fault h));
           gets-tree = gets-so;
+          always-answers = λ n e. run-said p (firstNodes left n);
           every-crew = λ n e crew.
-              crew-so theRun p (firstNodes left n) crew
+              crew-so theRun p (firstNodes left n) crew (calls-follow p (firstNodes left n) emptyHistory (crew .calls) (crew .answered))
               (subst (λ (bs : List ℕ). EveryList theRun p bs (callsOf theRun p (firstNodes left n) crew)) (made-is n e)
               (list-so (nodes-fault n e) (callsOf theRun p (firstNodes left n) crew)));
           every-two-crews = λ n e.
@@ -141,4 +144,6 @@ module _ (p : Plan) (lent : List ℕ) (wf : WellFormed p) (room : mostBytes ≤ 
 -- ---- The theorem
 
 pub demand3 : Demand3 planner
-demand3 p lent wf room r left by = demand3-for p lent wf room r left by
+demand3 p lent wf room =
+    let (r, so) = search-said p lent in
+    ((r, searchLeaves p lent, record { answer = so; buffer = refl }), λ r left by. demand3-for p lent wf room r left by)

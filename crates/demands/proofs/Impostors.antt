@@ -17,6 +17,7 @@ use Rattle.network.specs.Search.{firstTree}
 use Rattle.network.specs.Crew.{Step, timesPerformed, slotBySteps, valueBySteps, Some, Hears, HeardAlike, ToldAlike}
 use Rattle.network.proofs.Booleans.{by-test, clash, and-left, ltb-is}
 use Rattle.plan.specs.declared.Plan.{Plan}
+use Rattle.plan.specs.declared.Refusal.{Refusal}
 use Rattle.plan.specs.declared.Refusal.the-variants as refusal
 use Rattle.plan.specs.declared.Judged.the-variants as judged
 use Rattle.plan.specs.Refusal.{refusalNumber}
@@ -32,28 +33,29 @@ use Rattle.judge.proofs.WellFormedLaws as judge
 use Rattle.tree.specs.Nodes.{mostBytes, firstNodes, overwritten}
 use Rattle.tree.specs.Trees.{treeBytes}
 use Rattle.checker.proofs.Cases.{never}
+use Rattle.search.specs.declared.Searched.{Searched}
 use Rattle.search.specs.declared.Searched.the-variants as searched
+use Rattle.search.specs.Searched.{searchedAnswer}
 use Rattle.search.specs.Search.{searchFault, searchAnswer, searchLeaves}
 use Rattle.search.proofs.SearchTheorems.{first-moves, fine-exactly}
 use Rattle.search.proofs.Cases.{computing}
 use Rattle.run.specs.declared.History.{History}
+use Rattle.run.specs.declared.Shown.{Shown}
 use Rattle.run.specs.declared.Shown.the-variants as shown
-use Rattle.run.specs.History.{emptyHistory, longer, reportsIn}
+use Rattle.run.specs.History.{historyOf, emptyHistory, longer, reportsIn}
 use Rattle.run.specs.Run.{toldFrom, showAnswer, reportFault, reportAnswer}
-use Rattle.run.specs.Told.{Told, instruct, complete, refuse}
+use Rattle.run.specs.Told.{Told, instruct, complete, refuse, shownTold}
 use Rattle.run.proofs.ToldLaws.{refused-is-not}
 use Rattle.run.proofs.Cases.{move}
 use Rattle.following.specs.Calls.{Run, Call, reporting}
 use Rattle.following.specs.ThisRun.{theRun}
 use Rattle.following.proofs.Cases.{calling, step}
 use Rattle.demands.specs.Planner.{Planner}
-use Rattle.demands.specs.Calls.{OneOf}
-use Rattle.demands.specs.Demand3.{Hopeless, Demand3For, Demand3}
-use Rattle.demands.proofs.Demand1Laws.{unless-one, crewNumbers, Numbered, told-numbered, report-one}
-use Rattle.demands.proofs.Demand1Theorem.{show-numbered}
+use Rattle.demands.specs.Crews.{AlwaysAnswers, Made, reported, Answered, acceptedIn, heldAfter, Crew}
+use Rattle.demands.specs.Demand3.{Hopeless, EveryCrew, Demand3For, Demand3}
 use Rattle.demands.proofs.OtherPlanners.{searching, running}
 use Rattle.demands.proofs.ListLaws.{stepsAfter, toldAfter, EveryList, EveryTwoLists}
-use Rattle.demands.proofs.SaidLaws.{told-said, reported-said, AllSaid, run-said, list-of, two-lists-of, crewOf}
+use Rattle.demands.proofs.SaidLaws.{list-of, two-lists-of, crewOf}
 
 -- ---- What the refutations share
 
@@ -74,18 +76,20 @@ module _ (P : Planner) (d : Demand3 P) (p : Plan) (wf : WellFormed p) (n : ℕ) 
   made = firstNodes (P .leaves p lent) n
 
   got-tree : Demand3For (P .run) p lent (searched.Nodes n) (P .leaves p lent)
-  got-tree = d p lent wf room (searched.Nodes n) (P .leaves p lent) (record { answer = sym got; buffer = refl })
+  got-tree = d p lent wf room .1 (searched.Nodes n) (P .leaves p lent) (record { answer = sym got; buffer = refl })
 
-  module _ (said : AllSaid (P .run) p made) where
-    every-list : (calls : List Call) → EveryList (P .run) p made calls
-    every-list calls = list-of (P .run) p made said calls (got-tree .every-crew n refl (crewOf (P .run) p made said calls))
+  said : AlwaysAnswers (P .run) p made
+  said = got-tree .always-answers n refl
 
-    every-two-lists : EveryTwoLists (P .run) p made
-    every-two-lists = two-lists-of (P .run) p made said (got-tree .every-two-crews n refl)
+  every-list : (calls : List Call) → EveryList (P .run) p made calls
+  every-list calls = list-of (P .run) p made said calls (got-tree .every-crew n refl (crewOf (P .run) p made said calls))
 
-    -- The walk breaks where the tree that was made is refused: the crew is not done, and its history cannot be lengthened.
-    no-walk : (k : ℕ) → toldAfter (P .run) p made [] ≡ refuse k → ⊥
-    no-walk k r = refused-is-not (sym r ∙ every-list [] .goes-on (not-done r) .is-told)
+  every-two-lists : EveryTwoLists (P .run) p made
+  every-two-lists = two-lists-of (P .run) p made said (got-tree .every-two-crews n refl)
+
+  -- The walk breaks where the tree that was made is refused: the crew is not done, and its history cannot be lengthened.
+  no-walk : (k : ℕ) → toldAfter (P .run) p made [] ≡ refuse k → ⊥
+  no-walk k r = refused-is-not (sym r ∙ every-list [] .goes-on (not-done r) .is-told)
 
 -- a report that gets this fault: without one the longer history is handed back, else the one that was given
 abbrev reportedBy : ℕ → History → ℕ → Answer History
@@ -112,19 +116,34 @@ k1-consistent = fine-exactly k1 lent k1-fine room .0 (k1-answer .0)
 
 -- ---- A search that calls every plan hopeless, once buffer and plan are judged. It breaks part 1, "exactly when": K1 has a strategy.
 
+-- 10, then 2, 3, 4, then always 11
+abbrev noHope : Plan → List ℕ → ℕ
+noHope p xs = first (unless (leb mostBytes (length xs)) refusal.Buffer) (first (planFault p) (refusalNumber refusal.Hopeless))
+
+abbrev zerosUnder11 : Plan → List ℕ → List ℕ
+zerosUnder11 p xs = cond (eqb (noHope p xs) (refusalNumber refusal.Hopeless)) (overwritten [] xs) xs
+
 abbrev pub always-hopeless : Planner
-always-hopeless =
-    searching
-    (λ p xs.
-    let judged = first (unless (leb mostBytes (length xs)) refusal.Buffer) (first (planFault p) (refusalNumber refusal.Hopeless)) in
-    record { fault = judged; value = 0 })
-    (λ p xs. overwritten [] xs) theRun
+always-hopeless = searching (λ p xs. record { fault = noHope p xs; value = 0 }) zerosUnder11 theRun
 
 pub always-hopeless-fails : ¬ Demand3 always-hopeless
 unfolding computing
 always-hopeless-fails d =
-    d k1 lent k1-fine room (searched.Refused refusal.Hopeless) (overwritten [] lent) (record { answer = refl; buffer = refl })
+    d k1 lent k1-fine room .1 (searched.Refused refusal.Hopeless) (overwritten [] lent) (record { answer = refl; buffer = refl })
     .hopeless-exactly .0 refl k1-consistent
+
+-- .. with a number of nodes beside it, which no answer has: then nothing is handed back of which part 1 could be said, and that is asked.
+
+abbrev pub hopeless-with-nodes : Planner
+hopeless-with-nodes = searching (λ p xs. record { fault = noHope p xs; value = 1 }) zerosUnder11 theRun
+
+no-such-answer : (r : Searched) → ¬ (searchedAnswer r ≡ record { fault = 11; value = 1 })
+no-such-answer (searched.Nodes n) e = let z : _≡_ {A = ℕ} 0 11 = ap (λ (a : Answer ℕ). a .fault) e in omega arith
+no-such-answer (searched.Refused r) e = let z : _≡_ {A = ℕ} 0 1 = ap (λ (a : Answer ℕ). a .value) e in omega arith
+
+pub hopeless-with-nodes-fails : ¬ Demand3 hopeless-with-nodes
+unfolding computing
+hopeless-with-nodes-fails d = let (r, left, by) = d k1 lent k1-fine room .0 in no-such-answer r (by .answer)
 
 -- ---- A search that says 11 before looking, at any plan or buffer. It breaks part 1 too: of K1 it says hopeless, which has a strategy.
 
@@ -134,7 +153,7 @@ before-looking =
 
 pub before-looking-fails : ¬ Demand3 before-looking
 before-looking-fails d =
-    d k1 lent k1-fine room (searched.Refused refusal.Hopeless) (overwritten [] lent) (record { answer = refl; buffer = refl })
+    d k1 lent k1-fine room .1 (searched.Refused refusal.Hopeless) (overwritten [] lent) (record { answer = refl; buffer = refl })
     .hopeless-exactly .0 refl k1-consistent
 
 -- ---- A search that leaves the buffer alone. It breaks part 3: the bytes are not those of K1's tree.
@@ -159,7 +178,7 @@ buffer-alone-told = refl
 
 pub buffer-alone-fails-walking : ¬ Demand3 buffer-alone
 buffer-alone-fails-walking d =
-    no-walk buffer-alone d k1 k1-fine 1 (k1-answer .1) (run-said k1 (firstNodes lent 1)) 6 buffer-alone-told
+    no-walk buffer-alone d k1 k1-fine 1 (k1-answer .1) 6 buffer-alone-told
 
 -- ---- A search that hands out the same tree each time. It breaks the walk, part 4: where that tree breaks a constraint of the plan that
 -- was handed in, the crew is refused at once, so it is not done and cannot go on.
@@ -180,7 +199,7 @@ unfolding calling
 same-tree-told = refl
 
 pub same-tree-fails : ¬ Demand3 same-tree
-same-tree-fails d = no-walk same-tree d decided decided-fine 1 refl (run-said decided k1-bytes) 7 same-tree-told
+same-tree-fails d = no-walk same-tree d decided decided-fine 1 refl 7 same-tree-told
 
 -- .. even where its run doesn't check the tree: then it breaks part 5, as the crew is led past that plan's constraint.
 abbrev toldUnchecked : Plan → List ℕ → History → Told
@@ -192,17 +211,6 @@ unchecked =
 
 abbrev pub same-tree-unchecked : Planner
 same-tree-unchecked = searching (λ p xs. fine 1) (λ p xs. overwritten k1-bytes xs) unchecked
-
-unchecked-numbered : (p : Plan) (tree : List ℕ) (h : History) → Numbered (toldUnchecked p tree h)
-unchecked-numbered p tree h = told-numbered p (start (networkOf p)) tree (reportsIn h)
-
-unchecked-said : (p : Plan) (tree : List ℕ) → AllSaid unchecked p tree
-unchecked-said p tree =
-    record {
-      shows = λ h. told-said (toldUnchecked p tree h) (unchecked-numbered p tree h);
-      reports = λ h o.
-          reported-said (reportedBy (reportFault p (toldUnchecked p tree h) o) h o) (report-one p (toldUnchecked p tree h) o (unchecked-numbered p tree h));
-    }
 
 abbrev unchecked-steps : List Step
 unchecked-steps = step (move 0 1 0) 0 ∷ []
@@ -220,7 +228,7 @@ unchecked-breaks = refl
 
 pub same-tree-unchecked-fails : ¬ Demand3 same-tree-unchecked
 same-tree-unchecked-fails d =
-    let all = every-list same-tree-unchecked d decided decided-fine 1 refl (unchecked-said decided k1-bytes) (reporting 0 ∷ []) in
+    let all = every-list same-tree-unchecked d decided decided-fine 1 refl (reporting 0 ∷ []) in
     let kept = all .constraints-held (unchecked-run .1) in
     clash (rw (unchecked-run .0) at kept) unchecked-breaks
 
@@ -236,20 +244,17 @@ wrong-count-says = (refl, refl)
 
 pub wrong-count-fails : ¬ Demand3 wrong-count
 wrong-count-fails d =
-    no-walk wrong-count d k1 k1-fine 2 (wrong-count-says .0) (run-said k1 (firstNodes (searchLeaves k1 lent) 2)) 6 (wrong-count-says .1)
+    no-walk wrong-count d k1 k1-fine 2 (wrong-count-says .0) 6 (wrong-count-says .1)
 
 -- ---- A run that says done early. It breaks part 5: after no call at all it is done, and point 0 was never performed.
 
 abbrev pub done-early : Planner
 done-early = running (record { shows = λ p tree h. complete; reports = reportAnswer })
 
-early-said : (p : Plan) (tree : List ℕ) → AllSaid (done-early .run) p tree
-early-said p tree = record { shows = λ h. (shown.Done, refl); reports = run-said p tree .reports }
-
 pub done-early-fails : ¬ Demand3 done-early
 unfolding calling timesPerformed
 done-early-fails d =
-    let all = every-list done-early d k1 k1-fine 1 (k1-answer .1) (early-said k1 _) [] in
+    let all = every-list done-early d k1 k1-fine 1 (k1-answer .1) [] in
     let z : _≡_ {A = ℕ} 0 1 = all .performed-once refl 0 (omega arith) in
     omega arith
 
@@ -283,19 +288,6 @@ ahead = record { shows = toldAhead; reports = λ p tree h o. reportedBy (faultAh
 
 abbrev pub whole-path : Planner
 whole-path = running ahead
-
-ahead-one : (p : Plan) (tree : List ℕ) (h : History) (o : ℕ) → OneOf (0 ∷ crewNumbers) (faultAhead p tree h o)
-ahead-one p tree h o =
-    by-test (eqb (h .count) 0)
-    (λ y. rw y (unless-one (0 ∷ crewNumbers) (inside o (mask 6 (condition (networkOf p)))) refusal.Mask refl))
-    (λ z. rw z (report-one p (toldAhead p tree h) o (show-numbered p tree _)))
-
-ahead-said : (p : Plan) (tree : List ℕ) → AllSaid ahead p tree
-ahead-said p tree =
-    record {
-      shows = λ h. run-said p tree .shows (foresee p tree (h .count) (getD (h .masks) 0 0) emptyHistory);
-      reports = λ h o. reported-said (reportedBy (faultAhead p tree h o) h o) (ahead-one p tree h o);
-    }
 
 -- K4 with a free point before its two: condition 0 at point 1; where it is true, point 2 at most 1 after point 1, else at least 2 after it
 abbrev late : Plan
@@ -374,7 +366,7 @@ not-told-alike (inr neither) = neither .1 (inr (inr (inl refl)))
 late-lists : Demand3 whole-path → EveryTwoLists ahead late late-tree
 late-lists d =
     subst (EveryTwoLists ahead late) (late-made .1)
-    (every-two-lists whole-path d late late-fine 4 (late-made .0) (ahead-said late (firstNodes (searchLeaves late lent) 4)))
+    (every-two-lists whole-path d late late-fine 4 (late-made .0))
 
 pub whole-path-fails : ¬ Demand3 whole-path
 whole-path-fails d =
@@ -386,16 +378,74 @@ whole-path-fails d =
 abbrev pub any-report : Planner
 any-report = running (record { shows = showAnswer; reports = λ p tree h o. fine (longer h o) })
 
-any-said : (p : Plan) (tree : List ℕ) → AllSaid (any-report .run) p tree
-any-said p tree =
-    record {
-      shows = run-said p tree .shows;
-      reports = λ h o. (record { answer = judged.Fine; history = longer h o }, refl);
-    }
-
 pub any-report-fails : ¬ Demand3 any-report
 unfolding calling
 any-report-fails d =
-    let all = every-list any-report d k1 k1-fine 1 (k1-answer .1) (any-said k1 _) (replicate 9 (reporting 0)) in
+    let all = every-list any-report d k1 k1-fine 1 (k1-answer .1) (replicate 9 (reporting 0)) in
     let z : 9 ≤ 8 = all .at-most-8 in
+    omega arith
+
+-- ---- A run that refuses with a number that no refusal has. It breaks part 4: showing has to hand something back.
+
+abbrev pub says-twelve : Planner
+says-twelve = running (record { shows = λ p tree h. refuse 12; reports = reportAnswer })
+
+no-twelve : (r : Refusal) → ¬ (refusalNumber r ≡ 12)
+no-twelve refusal.PlanText e = omega arith
+no-twelve refusal.Head e = omega arith
+no-twelve refusal.Letters e = omega arith
+no-twelve refusal.Constraints e = omega arith
+no-twelve refusal.TreeText e = omega arith
+no-twelve refusal.Shape e = omega arith
+no-twelve refusal.Broken e = omega arith
+no-twelve refusal.Mask e = omega arith
+no-twelve refusal.AfterDone e = omega arith
+no-twelve refusal.Buffer e = omega arith
+no-twelve refusal.Hopeless e = omega arith
+
+refuses-one : {m n : ℕ} → refuse m ≡ refuse n → m ≡ n
+refuses-one e = cc
+
+not-said : (s : Shown) → ¬ (shownTold s ≡ refuse 12)
+not-said (shown.Instruct v) e = refused-is-not (sym e)
+not-said shown.Done e = not-done e refl
+not-said (shown.Refused r) e = no-twelve r (refuses-one e)
+
+pub says-twelve-fails : ¬ Demand3 says-twelve
+says-twelve-fails d =
+    let (s, by) = said says-twelve d k1 k1-fine 1 (k1-answer .1) .shows emptyHistory in not-said s by
+
+-- ---- A run that accepts a report after done and hands back the same history. It breaks part 4: the history doesn't hold that report.
+
+abbrev acceptsDone : Plan → List ℕ → History → ℕ → Told → Answer History
+acceptsDone p tree h o (instruct m) = reportAnswer p tree h o
+acceptsDone p tree h o complete = fine h
+acceptsDone p tree h o (refuse n) = reportAnswer p tree h o
+
+abbrev afterDone : Run
+afterDone = record { shows = showAnswer; reports = λ p tree h o. acceptsDone p tree h o (showAnswer p tree h) }
+
+abbrev pub accepts-after-done : Planner
+accepts-after-done = running afterDone
+
+-- two reports over K1's tree, the second one after done
+abbrev twice : List Made
+twice =
+    reported 0 (shown.Instruct (record { slot = 0; points = 1; choices = 0 })) (record { answer = judged.Fine; history = historyOf (0 ∷ []) })
+    ∷ reported 0 shown.Done (record { answer = judged.Fine; history = historyOf (0 ∷ []) }) ∷ []
+
+twice-crew : Crew afterDone k1 k1-bytes
+unfolding calling Answered heldAfter
+twice-crew = record { calls = twice; answered = (refl, refl, (refl, refl, tt)); says = shown.Done; told = refl }
+
+k1-made : firstNodes (searchLeaves k1 lent) 1 ≡ k1-bytes
+unfolding computing
+k1-made = refl
+
+pub accepts-after-done-fails : ¬ Demand3 accepts-after-done
+unfolding twice-crew heldAfter acceptedIn
+accepts-after-done-fails d =
+    let every = got-tree accepts-after-done d k1 k1-fine 1 (k1-answer .1) .every-crew 1 refl in
+    let all = subst (λ (bs : List ℕ). (crew : Crew afterDone k1 bs) → EveryCrew crew) k1-made every twice-crew in
+    let z : _≡_ {A = ℕ} 1 2 = ap (λ (h : History). h .count) (all .holds-reports) in
     omega arith

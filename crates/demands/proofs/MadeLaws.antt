@@ -19,11 +19,11 @@ use Rattle.run.specs.declared.Instruction.{Instruction}
 use Rattle.run.specs.declared.Shown.{Shown}
 use Rattle.run.specs.declared.Shown.the-variants as shown
 use Rattle.run.specs.declared.Reported.{Reported}
-use Rattle.run.specs.History.{emptyHistory, longer}
-use Rattle.run.specs.Told.{Told, instruct, complete, instructed, shownTold, reportedAnswer}
-use Rattle.run.proofs.ToldLaws.{refused-is-not}
+use Rattle.run.specs.History.{historyOf, emptyHistory, longer}
+use Rattle.run.specs.Told.{Told, instruct, complete, instructed, shownTold, reportedAnswer, instructionAt}
+use Rattle.run.proofs.ToldLaws.{done-is-not, refused-is-not}
 use Rattle.following.specs.Calls.{Run, Call, showing, reporting, Progress, begun, stepsOf, afterCall, afterCalls}
-use Rattle.demands.specs.Crews.{ShownBy, ReportedBy, Made, showed, reported, Answered, heldAfter, followedBy, stepsTaken, Crew, historyHeld, stepsFollowed, reportsMade, Done}
+use Rattle.demands.specs.Crews.{ShownBy, ReportedBy, Made, showed, reported, Answered, acceptedBy, heldAfter, followedBy, stepsTaken, Crew, historyHeld, stepsFollowed, reportsMade, Done}
 use Rattle.demands.specs.Demand3.{CanBeLengthened, EveryCrew, EveryTwoCrews}
 use Rattle.demands.proofs.ListLaws.{historyAfter, stepsAfter, toldAfter, ListDone, Lengthened, EveryList, EveryTwoLists}
 
@@ -50,6 +50,17 @@ followed-is (shown.Instruct v) o judged.Fine = refl
 followed-is (shown.Instruct v) o (judged.Refused r) = sym (refused-follows (instructed v) o (refusalNumber r) (no-refusal r))
 followed-is shown.Done o j = refl
 followed-is (shown.Refused r) o j = refl
+
+-- a report that is accepted only where an instruction is told follows it
+pub one-follows :
+    (s : Shown) (o : ℕ) (j : Judged) → (j ≡ judged.Fine → (m : Move) × (shownTold s ≡ instruct m)) →
+    acceptedBy o j ≡ map (λ (st : Step). st .report) (followedBy s o j)
+one-follows (shown.Instruct v) o judged.Fine told = refl
+one-follows (shown.Instruct v) o (judged.Refused r) told = refl
+one-follows shown.Done o judged.Fine told = done-is-not (told refl .1)
+one-follows shown.Done o (judged.Refused r) told = refl
+one-follows (shown.Refused k) o judged.Fine told = refused-is-not (told refl .1)
+one-follows (shown.Refused k) o (judged.Refused r) told = refl
 
 -- ---- the calls that were made
 
@@ -126,13 +137,14 @@ module _ (R : Run) (p : Plan) (tree : List ℕ) where
               ap (λ (x : Answer History). x .value) so ∙ l .lengthens o (sym (fault o a so) ∙ ap judgedNumber y);
         }
 
-    -- what holds of its list of calls holds of the crew
-    pub crew-so : EveryList R p tree callsOf → EveryCrew crew
-    crew-so all =
+    -- what holds of its list of calls holds of the crew, where each accepted report follows an instruction
+    pub crew-so : reportsMade crew ≡ map (λ st. st .report) (stepsFollowed crew) → EveryList R p tree callsOf → EveryCrew crew
+    crew-so each all =
         record {
-          holds-reports = rw (history-is, steps-are) at (all .holds-reports);
+          holds-reports = (rw (history-is, steps-are) at (all .holds-reports)) ∙ ap historyOf (sym each);
+          each-follows = each;
           at-most-8 = rw history-is at (all .at-most-8);
-          told-by-rule = λ t f. sym told-is ∙ (rw steps-are at (all .told-by-rule t f));
+          told-by-rule = λ t f. sym told-is ∙ (rw steps-are at (all .told-by-rule t f)) ∙ ap (instructionAt p t) (sym each);
           goes-on = λ n.
               lengthened (crew .says) refl
               (subst (Lengthened R p tree) history-is (all .goes-on (λ e. n (says-done (crew .says) (sym told-is ∙ e))))) n;

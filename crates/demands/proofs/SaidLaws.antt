@@ -2,11 +2,11 @@
 -- every crew holds of every list. Only the checker need believe this file.
 use mathlib.Core.Path.{_≡_, refl, sym, ap, _∙_, subst}
 use mathlib.Core.Logic.{_↔_, _⊎_, inl, inr, ⊎-elim}
-use mathlib.Core.List.{List, [], _∷_, map}
+use mathlib.Core.List.{List, [], _∷_, _++_, map, map-append}
 use Prim.Native.Nat.{ℕ}
 use native.Mathlib.Omega.{arith}
 use lib.Dec.{eqb}
-use Rattle.network.specs.Game.{Outcome}
+use Rattle.network.specs.Crew.{Step}
 use Rattle.network.proofs.Booleans.{by-test, eqb-is, differs}
 use Rattle.plan.specs.declared.Plan.{Plan}
 use Rattle.plan.specs.declared.Refusal.{Refusal}
@@ -26,18 +26,18 @@ use Rattle.run.specs.declared.History.{History}
 use Rattle.run.specs.declared.Shown.{Shown}
 use Rattle.run.specs.declared.Shown.the-variants as shown
 use Rattle.run.specs.declared.Reported.{Reported}
-use Rattle.run.specs.History.{emptyHistory}
-use Rattle.run.specs.Run.{showAnswer, reportAnswer}
-use Rattle.run.specs.Told.{Told, instruct, complete, refuse, instructed, shownTold, reportedAnswer}
+use Rattle.run.specs.History.{historyOf, emptyHistory}
+use Rattle.run.specs.Run.{showAnswer, reportFault, reportAnswer}
+use Rattle.run.specs.Told.{Told, instruct, complete, refuse, instructed, shownTold, reportedAnswer, instructionAt}
 use Rattle.following.specs.Calls.{Run, Call, showing, reporting}
 use Rattle.following.specs.ThisRun.{theRun}
-use Rattle.demands.specs.Calls.{OneOf}
-use Rattle.demands.specs.Crews.{ShownBy, ReportedBy, Made, showed, reported, Answered, heldAfter, Crew, historyHeld, stepsFollowed, Done}
+use Rattle.demands.specs.EachCall.{OneOf}
+use Rattle.demands.specs.Crews.{AlwaysAnswers, Made, showed, reported, Answered, acceptedIn, heldAfter, followedBy, stepsTaken, Crew, historyHeld, stepsFollowed, Done}
 use Rattle.demands.specs.Demand3.{CanBeLengthened, EveryCrew, EveryTwoCrews}
-use Rattle.demands.proofs.Demand1Laws.{crewNumbers, refusal-said, Numbered}
+use Rattle.demands.proofs.Demand1Laws.{crewNumbers, refusal-said, Numbered, accepted-of}
 use Rattle.demands.proofs.Demand1Theorem.{show-numbered, reports-one, search-one}
 use Rattle.demands.proofs.ListLaws.{historyAfter, stepsAfter, toldAfter, ListDone, Lengthened, EveryList, EveryTwoLists}
-use Rattle.demands.proofs.MadeLaws.{callMade, callsOf, history-is, steps-are, told-is, says-done}
+use Rattle.demands.proofs.MadeLaws.{one-follows, callMade, callsOf, history-is, steps-are, told-is, says-done}
 
 -- ---- numbers that are said
 
@@ -81,19 +81,30 @@ search-said p xs = go (search-one p xs)
 
 -- ---- the run
 
--- whatever the history and the mask, the answer is something that is handed back
-pub record AllSaid (R : Run) (p : Plan) (tree : List ℕ) : Type 0 where
-  pub shows : (h : History) → (s : Shown) × ShownBy R p tree h s
-  pub reports : (h : History) (o : ℕ) → (a : Reported) × ReportedBy R p tree h o a
-
-pub run-said : (p : Plan) (tree : List ℕ) → AllSaid theRun p tree
+pub run-said : (p : Plan) (tree : List ℕ) → AlwaysAnswers theRun p tree
 run-said p tree =
     record {
       shows = λ h. told-said (showAnswer p tree h) (show-numbered p tree h);
       reports = λ h o. reported-said (reportAnswer p tree h o) (reports-one p tree h o);
     }
 
-module _ (R : Run) (p : Plan) (tree : List ℕ) (all : AllSaid R p tree) where
+-- each accepted report follows an instruction
+pub calls-follow :
+    (p : Plan) (tree : List ℕ) (h : History) (calls : List Made) → Answered theRun p tree h calls →
+    acceptedIn calls ≡ map (λ (st : Step). st .report) (stepsTaken calls)
+unfolding Answered acceptedIn stepsTaken reportAnswer
+calls-follow p tree h [] y = refl
+calls-follow p tree h (showed says ∷ calls) (s, y) = calls-follow p tree h calls y
+calls-follow p tree h (reported o says a ∷ calls) (s, r, y) =
+    let steps = followedBy says o (a .answer) in
+    let one = one-follows says o (a .answer) (λ fine.
+    let none : reportFault p (showAnswer p tree h) o ≡ 0 = ap (λ (x : Answer History). x .fault) (sym r) ∙ ap judgedNumber fine in
+    let (m, told) = accepted-of p o (showAnswer p tree h) (show-numbered p tree h) none in
+    (m, s ∙ told)) in
+    let on = calls-follow p tree (a .history) calls y in
+    (λ i. one i ++ on i) ∙ sym (map-append (λ (st : Step). st .report) steps (stepsTaken calls))
+
+module _ (R : Run) (p : Plan) (tree : List ℕ) (all : AlwaysAnswers R p tree) where
   -- the calls of a list, made
   unfoldable pub made : History → List Call → List Made
   made h [] = []
@@ -163,9 +174,10 @@ module _ (R : Run) (p : Plan) (tree : List ℕ) (all : AllSaid R p tree) where
     pub list-of : EveryCrew (crewOf calls) → EveryList R p tree calls
     list-of every =
         record {
-          holds-reports = rw (held-is, followed-are) at (every .holds-reports);
+          holds-reports = rw (held-is, followed-are) at (every .holds-reports ∙ ap historyOf (every .each-follows));
           at-most-8 = rw held-is at (every .at-most-8);
-          told-by-rule = λ t f. sym said-is ∙ (rw followed-are at (every .told-by-rule t f));
+          told-by-rule = λ t f.
+              sym said-is ∙ (rw followed-are at (every .told-by-rule t f ∙ ap (instructionAt p t) (every .each-follows)));
           goes-on = λ n. lengthened (every .goes-on (λ e. n (sym said-is ∙ ap shownTold e)));
           performed-once = λ e. rw followed-are at (every .performed-once (crew-done e));
           within-horizon = λ e. rw followed-are at (every .within-horizon (crew-done e));

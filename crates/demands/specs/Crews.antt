@@ -1,7 +1,7 @@
 -- Definitions: crews: the calls that one made over a plan and a tree, with what each call handed back (document 01, "The crew's run"). To
 -- be believed, for demand 3.
 use mathlib.Core.Path.{_≡_}
-use mathlib.Core.List.{List, [], _∷_, _++_, map}
+use mathlib.Core.List.{List, [], _∷_, _++_}
 use Prim.Native.Nat.{ℕ}
 use Rattle.network.specs.Crew.{Step}
 use Rattle.plan.specs.declared.Plan.{Plan}
@@ -37,13 +37,28 @@ Answered R p tree h (showed says ∷ calls) = ShownBy R p tree h says × Answere
 Answered R p tree h (reported o says a ∷ calls) =
     ShownBy R p tree h says × ReportedBy R p tree h o a × Answered R p tree (a .history) calls
 
+-- something is handed back, whatever the history and the mask
+pub record AlwaysAnswers (R : Run) (p : Plan) (tree : List ℕ) : Type 0 where
+  pub shows : (h : History) → (s : Shown) × ShownBy R p tree h s
+  pub reports : (h : History) (o : ℕ) → (a : Reported) × ReportedBy R p tree h o a
+
+-- the masks of the accepted reports, in order
+abbrev pub acceptedBy : ℕ → Judged → List ℕ
+acceptedBy o judged.Fine = o ∷ []
+acceptedBy o (judged.Refused r) = []
+
+unfoldable pub acceptedIn : List Made → List ℕ
+acceptedIn [] = []
+acceptedIn (showed says ∷ calls) = acceptedIn calls
+acceptedIn (reported o says a ∷ calls) = acceptedBy o (a .answer) ++ acceptedIn calls
+
 -- the history that is held after the calls
 unfoldable pub heldAfter : History → List Made → History
 heldAfter h [] = h
 heldAfter h (showed says ∷ calls) = heldAfter h calls
 heldAfter h (reported o says a ∷ calls) = heldAfter (a .history) calls
 
--- Each accepted report follows the instruction told at the history it was given (document 01's words); no other report follows any.
+-- An accepted report follows the instruction told at the history it was given (document 01's words); no other report follows any.
 abbrev pub followedBy : Shown → ℕ → Judged → List Step
 followedBy (shown.Instruct v) o judged.Fine = record { instruction = instructed v; report = o } ∷ []
 followedBy (shown.Instruct v) o (judged.Refused r) = []
@@ -66,12 +81,11 @@ module _ {R : Run} {p : Plan} {tree : List ℕ} (crew : Crew R p tree) where
   abbrev pub historyHeld : History
   historyHeld = heldAfter emptyHistory (crew .calls)
 
-  -- the steps followed, one for each accepted report, and their reports in order
+  abbrev pub reportsMade : List ℕ
+  reportsMade = acceptedIn (crew .calls)
+
   abbrev pub stepsFollowed : List Step
   stepsFollowed = stepsTaken (crew .calls)
-
-  abbrev pub reportsMade : List ℕ
-  reportsMade = map (λ st. st .report) stepsFollowed
 
   -- the run is done when the crew is told done
   abbrev pub Done : Type 0

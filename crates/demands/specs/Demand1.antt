@@ -14,8 +14,8 @@ use Rattle.run.specs.declared.History.{History}
 use Rattle.following.specs.Calls.{begun, afterCalls}
 use Rattle.following.specs.Following.{callsIn}
 use Rattle.demands.specs.Planner.{Planner}
-use Rattle.demands.specs.Calls.{AnswersJudge, AnswersReadPlan, AnswersWritePlan, AnswersReadTree, AnswersWriteTree}
-use Rattle.demands.specs.Calls.{AnswersCheck, AnswersSearch, AnswersShow, AnswersReport, AnswersVerdict, AnswersProgram}
+use Rattle.demands.specs.EachCall.{AnswersJudge, AnswersReadPlan, AnswersWritePlan, AnswersReadTree, AnswersWriteTree}
+use Rattle.demands.specs.EachCall.{AnswersCheck, AnswersSearch, AnswersShow, AnswersReport, AnswersVerdict, AnswersScreen, AnswersProgram}
 
 pub record Demand1 (P : Planner) : Type 0 where
   pub judge : (p : Plan) → AnswersJudge p (P .judges p)
@@ -36,8 +36,7 @@ pub record Demand1 (P : Planner) : Type 0 where
   pub follow-few :
       (p : Plan) (bs : List ℕ) (h : History) (calls : List ℕ) → length (h .masks) ≡ 8 → length (P .follows p bs h calls .steps) ≤ 8
   pub verdict : (p : Plan) (values : ℕ) → AnswersVerdict p values (P .fixes p values)
-  -- the screen: 2, 3, 4
-  pub screen : (p : Plan) → AnswersJudge p (P .screens p .fault)
+  pub screen : (p : Plan) → AnswersScreen p (P .screens p)
   -- a refusal's frame: 7F and its number
   pub refuse-frame : (r : Refusal) → P .refuses r ≡ faultText (refusalNumber r)
   pub program : (input : List ℕ) → AnswersProgram input (P .prints input)

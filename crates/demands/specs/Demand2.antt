@@ -19,7 +19,7 @@ use Rattle.tree.specs.Trees.{Describes}
 use Rattle.plan_text.specs.PlanText.{planText}
 use Rattle.tree_text.specs.TreeText.{treeText}
 use Rattle.demands.specs.Planner.{Planner}
-use Rattle.demands.specs.Calls.{Sized}
+use Rattle.demands.specs.EachCall.{Sized}
 
 -- what is written of a plan, or of a tree's bytes, into a buffer
 abbrev pub planTextIn : Planner → Plan → List ℕ → List ℕ
@@ -63,5 +63,5 @@ pub record Demand2 (P : Planner) : Type 0 where
   pub yes-exactly :
       (p : Plan) (bs : List ℕ) → (P .checks p bs ≡ 0)
       ↔ (WellFormed p × ((σ : Strategy) × DescribesStrategy p bs σ × Dynamic (networkOf p) σ × Viable (networkOf p) σ))
-  -- .. and they describe one at most
+  -- (whatever the planner: they describe one at most)
   pub one-strategy : (p : Plan) (bs : List ℕ) → WellFormed p → (σ τ : Strategy) → DescribesStrategy p bs σ → DescribesStrategy p bs τ → σ ≡ τ

@@ -4,7 +4,7 @@
 -- proofs/Impostors.antt refutes it of others. To be believed, for demand 3.
 use mathlib.Core.Path.{_≡_}
 use mathlib.Core.Logic.{_↔_}
-use mathlib.Core.List.{List}
+use mathlib.Core.List.{List, map}
 use mathlib.Core.Bool.{true}
 use Prim.Native.Nat.{ℕ, _≤_, _<_}
 use lib.ListN.{length}
@@ -34,7 +34,7 @@ use Rattle.run.specs.History.{historyOf, longer}
 use Rattle.run.specs.Told.{instructed, shownTold, instructionAt}
 use Rattle.following.specs.Calls.{Run}
 use Rattle.demands.specs.Planner.{Planner}
-use Rattle.demands.specs.Crews.{ReportedBy, Crew, historyHeld, stepsFollowed, reportsMade, Done}
+use Rattle.demands.specs.Crews.{ReportedBy, AlwaysAnswers, Crew, historyHeld, stepsFollowed, reportsMade, Done}
 
 -- ---- The search
 
@@ -60,9 +60,10 @@ pub record CanBeLengthened (R : Run) (p : Plan) (tree : List ℕ) (h : History) 
 
 -- parts 4 and 5: what holds of every crew, whatever it called
 pub record EveryCrew {R : Run} {p : Plan} {tree : List ℕ} (crew : Crew R p tree) : Type 0 where
-  -- The history holds the masks of the accepted reports, in order: at most 8. What is told at it is the instruction at it by document
-  -- 01's rule, in the tree of first moves.
+  -- The history holds the masks of the accepted reports, in order: at most 8. Each of them follows an instruction. What is told at the
+  -- history is the instruction at it by document 01's rule, in the tree of first moves.
   pub holds-reports : historyHeld crew ≡ historyOf (reportsMade crew)
+  pub each-follows : reportsMade crew ≡ map (λ st. st .report) (stepsFollowed crew)
   pub at-most-8 : historyHeld crew .count ≤ 8
   pub told-by-rule :
       (t : Tree) → FirstMoves (networkOf p) t (start (networkOf p)) → shownTold (crew .says) ≡ instructionAt p t (reportsMade crew)
@@ -96,13 +97,15 @@ pub record Demand3For (R : Run) (p : Plan) (lent : List ℕ) (r : Searched) (lef
   pub gets-tree :
       ¬ Hopeless r → (t : Tree) → FirstMoves (networkOf p) t (start (networkOf p)) →
       (r ≡ searched.Nodes (length (preorder (networkOf p) t))) × (left ≡ overwritten (treeBytes (networkOf p) t) lent)
-  -- 4 and 5. for every list of calls over that plan and the tree that the search made: as many nodes as it answered, as it left them
+  -- 4 and 5. For every list of calls over that plan and the tree that the search made: as many nodes as it answered, as it left them. Every
+  -- call hands something back, so that there are such lists.
+  pub always-answers : (n : ℕ) → r ≡ searched.Nodes n → AlwaysAnswers R p (firstNodes left n)
   pub every-crew : (n : ℕ) → r ≡ searched.Nodes n → (crew : Crew R p (firstNodes left n)) → EveryCrew crew
   -- 6. for every two such lists, both done, and every slot
   pub every-two-crews : (n : ℕ) → r ≡ searched.Nodes n → EveryTwoCrews R p (firstNodes left n)
 
--- of every well-formed plan and every buffer of 573 bytes or more
+-- of every well-formed plan and every buffer of 573 bytes or more: the search hands something back, and of that
 abbrev pub Demand3 : Planner → Type 0
 Demand3 P =
-    (p : Plan) (lent : List ℕ) → WellFormed p → mostBytes ≤ length lent → (r : Searched) (left : List ℕ) → SearchedBy P p lent r left →
-    Demand3For (P .run) p lent r left
+    (p : Plan) (lent : List ℕ) → WellFormed p → mostBytes ≤ length lent → ((r : Searched) × (left : List ℕ) × SearchedBy P p lent r left)
+    × ((r : Searched) (left : List ℕ) → SearchedBy P p lent r left → Demand3For (P .run) p lent r left)

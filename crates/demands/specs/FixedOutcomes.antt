@@ -16,10 +16,13 @@ use Rattle.verdict.specs.Answers.{verdictAnswer, screenAnswer}
 use Rattle.demands.specs.Planner.{Planner}
 
 pub record FixedOutcomes (P : Planner) : Type 0 where
+  -- something is handed back
+  pub verdict-said : (p : Plan) (m : ℕ) → (r : Verdict) × (verdictAnswer r ≡ P .fixes p m)
+  pub screen-said : (p : Plan) → (r : Screened) × (screenAnswer r ≡ P .screens p)
   -- a well-formed plan and a mask that sets all its letters: the least schedule, or "none" where there is no schedule
   pub verdict :
       (p : Plan) (m : ℕ) (r : Verdict) → verdictAnswer r ≡ P .fixes p m → WellFormed p → Setting (networkOf p) m → Says p m (r .found) (r .slots)
-  -- .. and one answer alone says so
+  -- (whatever the planner: one answer alone says so)
   pub one-verdict : (p : Plan) (m : ℕ) (v w : Verdict) → Says p m (v .found) (v .slots) → Says p m (w .found) (w .slots) → v ≡ w
   -- a well-formed plan passes the screen exactly when every setting of all its letters has a schedule, and fails it exactly when one has none
   pub passes :

@@ -13,14 +13,14 @@ use Rattle.plan.specs.declared.Refusal.the-variants as refusal
 use Rattle.plan.specs.Answer.{Answer, fine}
 use Rattle.plan.specs.Faults.{unless, filled}
 use Rattle.run.specs.Told.{Told, instruct, complete, refuse}
-use Rattle.demands.specs.Calls.{OneOf}
+use Rattle.demands.specs.EachCall.{OneOf}
 use Rattle.demands.proofs.Demand1Laws.{unless-one, one-of-more, crewNumbers, Numbered, refusal-said}
 use Rattle.plan.proofs.RefusalLaws.{no-refusal}
 use Rattle.answers.specs.Numbers.{faultNumber, numbered, answerNumber, toldNumber}
 use Rattle.answers.specs.Steps.{toldBytes}
 use Rattle.tureenlark.specs.Library.{shortFault}
 use Rattle.tureenlark.specs.Exported.{refusals, answerIn, faultIn, moveIn, toldIn}
-use Rattle.tureenlark.specs.LibraryDemands.{Answers}
+use Rattle.tureenlark.specs.LibraryDemands.{ResultOr}
 
 -- ---- a number
 
@@ -95,7 +95,7 @@ some-of numbers f (inr h) some = h
 
 pub answers-of :
     (low high : ℕ) (numbers : List ℕ) (f v : ℕ) → (f ≡ 0 → (low ≤ v) × (v ≤ high)) → OneOf (0 ∷ numbers) f →
-    Answers low high numbers (numbered f v)
+    ResultOr low high numbers (numbered f v)
 answers-of low high numbers f v result one =
     by-test (eqb f 0)
     (λ y. let e = eqb-is f 0 y in let r = result e in rw (number-fine f v e) (inl r))
@@ -118,7 +118,7 @@ told-in (refuse n) h rest =
     ∙ ap (λ (b : Bool). cond b complete (refuse (faultIn k))) (eqb-no k 0 none)
     ∙ ap (λ (a : Answer ℕ). refuse (a .fault)) (refused-in n)
 
-pub told-numbers : (x : Told) → Numbered x → Answers 0 1 crewNumbers (toldNumber x)
+pub told-numbers : (x : Told) → Numbered x → ResultOr 0 1 crewNumbers (toldNumber x)
 told-numbers (instruct m) h = inl (omega arith, omega arith)
 told-numbers complete h = inl (omega arith, omega arith)
 told-numbers (refuse n) h = inr (n, h, refl)

@@ -28,7 +28,7 @@ use Rattle.verdict.specs.Answers.{Fixed, none}
 use Rattle.verdict.specs.Verdict.{leastSchedule, screened}
 use Rattle.verdict.proofs.AnswerLaws.{eight-answer, fine-answer}
 use Rattle.answer_text.specs.AnswerText.{answerText}
-use Rattle.demands.specs.Calls.{AnswersJudge, AnswersVerdict, AnswersProgram}
+use Rattle.demands.specs.EachCall.{AnswersVerdict, AnswersScreen, AnswersProgram}
 use Rattle.demands.proofs.Demand1Theorem.{demand1}
 use Rattle.demands.proofs.FixedOutcomesTheorem.{fixed-outcomes}
 use Rattle.records.specs.Records.{planIn, planLength}
@@ -139,16 +139,18 @@ module _ (plan : List ℕ) (enough : planLength ≤ length plan) where
   screen-number-is : screenNumber plan ≡ numbered (answer .fault) (digit (answer .value))
   screen-number-is = long-number plan enough (answer .fault) (digit (answer .value))
 
-  pub screen-so : AnswersJudge (planIn plan) (faultIn (screenNumber plan))
+  pub screen-so :
+      AnswersScreen (planIn plan) (record { fault = faultIn (screenNumber plan); value = eqb (screenNumber plan) 1 })
   screen-so =
-      subst (AnswersJudge (planIn plan)) (sym (long-fault plan enough (answer .fault) (digit (answer .value)) (digit-small (answer .value))))
-      (demand1 .screen (planIn plan))
+      let fault = long-fault plan enough (answer .fault) (digit (answer .value)) (digit-small (answer .value)) in
+      let yes = ap (λ (k : ℕ). eqb k 1) screen-number-is ∙ yes-is (answer .fault) (answer .value) (demand1 .screen (planIn plan) .beside) in
+      subst (AnswersScreen (planIn plan)) (λ i. record { fault = sym fault i; value = sym yes i }) (demand1 .screen (planIn plan))
 
   pub screen-passes-so :
       WellFormed (planIn plan) →
       ((screenNumber plan ≡ 1) ↔ PassesScreen (networkOf (planIn plan))) × ((screenNumber plan ≡ 0) ↔ (¬ PassesScreen (networkOf (planIn plan))))
   screen-passes-so wf =
-      let none-wrong : answer .fault ≡ 0 = demand1 .screen (planIn plan) .fine .1 wf in
+      let none-wrong : answer .fault ≡ 0 = demand1 .screen (planIn plan) .judged .fine .1 wf in
       let result : screenNumber plan ≡ digit (answer .value) =
       screen-number-is ∙ number-fine (answer .fault) (digit (answer .value)) none-wrong in
       by-test (answer .value)

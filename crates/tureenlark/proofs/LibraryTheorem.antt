@@ -10,7 +10,6 @@ use lib.ListN.{length, drop, replicate}
 use Rattle.network.proofs.Booleans.{by-test, eqb-is, eqb-no, differs}
 use Rattle.plan.specs.Faults.{first, filled}
 use Rattle.judge.specs.Judge.{planFault}
-use Rattle.tree.specs.Nodes.{mostBytes}
 use Rattle.plan_text.specs.PlanText.{planText}
 use Rattle.plan_text.specs.ReadPlan.{readPlan}
 use Rattle.plan_text.specs.WritePlan.{writePlan, writePlanLeaves}
@@ -167,13 +166,13 @@ library-demands =
       write-plan = λ plan text enough. plans.write-plan-so plan enough text;
       read-tree = plans.read-tree-so;
       write-tree = plans.write-tree-so;
+      tree-back = plans.tree-back-so;
       check = λ plan tree enough. plans.check-so plan enough tree;
       check-yes = λ plan tree enough. plans.check-yes-so plan enough tree;
       search = λ plan tree enough. plans.search-so plan enough tree;
       search-hopeless = λ plan tree enough. plans.search-hopeless-so plan enough tree;
       search-nobody = λ plan tree enough. plans.search-nobody-so plan enough tree;
-      search-has-tree = λ plan enough wf c. plans.search-has-tree-so plan enough (replicate mostBytes 0) wf (omega arith) c;
-      search-gets-tree = λ plan tree enough. plans.search-gets-tree-so plan enough tree;
+      search-tree = λ plan tree enough. plans.search-tree-so plan enough tree;
       show = runs.show-so;
       show-bytes = runs.show-bytes-so;
       report = λ plan tree history instruction mask enough nine three. runs.report-so plan tree history mask enough nine instruction three;

@@ -2,12 +2,13 @@
 -- specs/LibraryDemands.antt has the statements.
 use mathlib.Core.Path.{_≡_, refl, sym, ap, _∙_, subst}
 use mathlib.Core.Logic.{_↔_, by-cases}
+use mathlib.Core.Bool.{true}
 use mathlib.Core.List.{List, [], _∷_, _++_}
 use Prim.Native.Nat.{ℕ, _+_, _≤_, _<_}
 use native.Mathlib.Omega.{arith}
 use native.Mathlib.Decide.{decLt}
 use lib.Dec.{eqb}
-use lib.ListN.{length, drop, length-append, length-drop}
+use lib.ListN.{length, take, drop, length-append}
 use Rattle.network.specs.Strategy.{Strategy, Viable, Dynamic, DynamicallyConsistent}
 use Rattle.network.specs.Game.{start}
 use Rattle.network.specs.Tree.{Tree, preorder}
@@ -22,8 +23,9 @@ use Rattle.plan.specs.Plan.{networkOf}
 use Rattle.plan.specs.WellFormed.{WellFormed}
 use Rattle.plan.proofs.AnswerLaws.{answered-zero}
 use Rattle.judge.specs.Judge.{planFault}
+use Rattle.frame.specs.Frame.{Bytes}
 use Rattle.frame.specs.Texts.{roomFault}
-use Rattle.tree.specs.Nodes.{mostBytes, legalLength, firstNodes, overwritten}
+use Rattle.tree.specs.Nodes.{mostBytes, legalLength, nodeCount, overwritten}
 use Rattle.tree.specs.Trees.{treeBytes}
 use Rattle.plan_text.specs.PlanText.{planText}
 use Rattle.plan_text.specs.ReadPlan.{readPlan}
@@ -39,8 +41,8 @@ use Rattle.search.specs.Searched.{searchedAnswer}
 use Rattle.search.specs.Search.{searchFault, searchAnswer, searchLeaves}
 use Rattle.search.proofs.SearchTheorems.{fault-is, refused-zero, hopeless-exactly}
 use Rattle.following.specs.ThisRun.{theRun}
-use Rattle.demands.specs.Calls.{Sized, AnswersJudge, AnswersReadPlan, AnswersWritePlan, AnswersReadTree, AnswersWriteTree, AnswersCheck}
-use Rattle.demands.specs.Calls.{AnswersSearch}
+use Rattle.demands.specs.EachCall.{Sized, AnswersJudge, AnswersReadPlan, AnswersWritePlan, AnswersReadTree, AnswersWriteTree, AnswersCheck}
+use Rattle.demands.specs.EachCall.{AnswersSearch}
 use Rattle.demands.specs.Demand2.{DescribesStrategy}
 use Rattle.demands.specs.ThisPlanner.{planner}
 use Rattle.demands.specs.Demand3.{SearchedBy, Hopeless, Demand3For}
@@ -196,7 +198,7 @@ module _ (plan : List ℕ) (enough : planLength ≤ length plan) where
     made : WellFormed p → mostBytes ≤ length tree → (r : Searched) × (searchedAnswer r ≡ searchAnswer p tree) × Demand3For theRun p tree r (searchLeaves p tree)
     made wf room =
         let (r, so) = search-said p tree in
-        (r, so, demand3 p tree wf room r (searchLeaves p tree) (record { answer = so; buffer = refl }))
+        (r, so, demand3 p tree wf room .1 r (searchLeaves p tree) (record { answer = so; buffer = refl }))
 
     pub search-nobody-so : searchNumber plan tree ≡ refusals + 11 → (π : Policy) → ¬ SucceedsAlways (networkOf p) π
     search-nobody-so e =
@@ -204,20 +206,17 @@ module _ (plan : List ℕ) (enough : planLength ≤ length plan) where
         let (r, so, d) = made wf room in
         d .nobody (d .hopeless-exactly .1 none)
 
-    pub search-has-tree-so :
+    pub search-tree-so :
         WellFormed p → mostBytes ≤ length tree → DynamicallyConsistent (networkOf p) →
         (t : Tree) × FirstMoves (networkOf p) t (start (networkOf p))
-    search-has-tree-so wf room c = let (r, so, d) = made wf room in d .has-tree (λ h. d .hopeless-exactly .0 h c)
-
-    pub search-gets-tree-so :
-        WellFormed p → mostBytes ≤ length tree → DynamicallyConsistent (networkOf p) → (t : Tree) →
-        FirstMoves (networkOf p) t (start (networkOf p)) →
-        (searchNumber plan tree ≡ length (preorder (networkOf p) t)) × (searchLeft plan tree ≡ overwritten (treeBytes (networkOf p) t) tree)
-    search-gets-tree-so wf room c t f =
+        × (searchNumber plan tree ≡ length (preorder (networkOf p) t)) × (searchLeft plan tree ≡ overwritten (treeBytes (networkOf p) t) tree)
+    search-tree-so wf room c =
         let (r, so, d) = made wf room in
-        let (nodes, left) = d .gets-tree (λ h. d .hopeless-exactly .0 h c) t f in
+        let hope : ¬ Hopeless r = λ h. d .hopeless-exactly .0 h c in
+        let (t, f) = d .has-tree hope in
+        let (nodes, left) = d .gets-tree hope t f in
         let answer : searchAnswer p tree ≡ fine (length (preorder (networkOf p) t)) = sym so ∙ ap searchedAnswer nodes in
-        (search-number-is ∙ ap (λ (a : Answer ℕ). numbered (a .fault) (a .value)) answer ∙ is-result (length (preorder (networkOf p) t)), search-left-is ∙ left)
+        (t, f, search-number-is ∙ ap (λ (a : Answer ℕ). numbered (a .fault) (a .value)) answer ∙ is-result (length (preorder (networkOf p) t)), search-left-is ∙ left)
 
     -- a result is the number of nodes that were made
     pub result-is : searchNumber plan tree < refusals → searchAnswer p tree ≡ fine (searchNumber plan tree)
@@ -280,3 +279,13 @@ write-tree-so tree text =
     let a = writeTree tree text in
     let same = answer-in a (λ e. tree-written-most tree text e .1) (tree-written-zero tree text) in
     subst (λ (x : Answer ℕ). AnswersWriteTree tree text x (writeTreeLeaves tree text)) (sym same) (demand1 .write-tree tree text)
+
+pub tree-back-so :
+    (tree text buffer : List ℕ) → Bytes tree → legalLength (length tree) ≡ true → length (treeText tree) ≤ length text →
+    mostBytes ≤ length buffer → let written = take (writeTreeNumber tree text) (writeTreeLeaves tree text) in
+    (readTreeNumber written buffer ≡ nodeCount tree) × (readTreeLeaves written buffer ≡ tree ++ drop (length tree) buffer)
+tree-back-so tree text buffer bytes legal fits room =
+    let (written, read, left) = demand2 .tree-back tree bytes legal text buffer fits room in
+    let number : writeTreeNumber tree text ≡ writeTree tree text .value =
+    ap (λ (a : Answer ℕ). numbered (a .fault) (a .value)) written ∙ is-result (length (treeText tree)) ∙ sym (ap (λ (a : Answer ℕ). a .value) written) in
+    rw number (ap (λ (a : Answer ℕ). numbered (a .fault) (a .value)) read ∙ is-result (nodeCount tree), left)

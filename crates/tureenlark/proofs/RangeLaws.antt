@@ -14,11 +14,12 @@ use Rattle.plan.specs.declared.Plan.{Plan}
 use Rattle.plan.specs.declared.Refusal.the-variants as refusal
 use Rattle.plan.specs.Faults.{unless, first, answered, filled}
 use Rattle.plan.proofs.AnswerLaws.{first-none, unless-is}
-use Rattle.plan.specs.Plan.{listed}
+use Rattle.plan.specs.Plan.{listed, networkOf}
 use Rattle.judge.specs.Judge.{planFault}
 use Rattle.judge.proofs.JudgeTheorems.{fine-exactly}
 use Rattle.frame.specs.Texts.{roomFault}
 use Rattle.tree.specs.Nodes.{legalLength}
+use Rattle.tree.specs.Trees.{treeBytes}
 use Rattle.tree.proofs.NodeLaws.{legal-is}
 use Rattle.plan_text.specs.PlanText.{planText}
 use Rattle.plan_text.specs.ReadPlan.{readPlan}
@@ -37,7 +38,7 @@ use Rattle.following.specs.declared.Followed.{Followed}
 use Rattle.verdict.specs.Verdict.{leastSchedule, screened}
 use Rattle.answer_text.specs.AnswerText.{answerText}
 use Rattle.answer_text.proofs.AnswerTextTheorems.{answer-fits}
-use Rattle.demands.specs.Calls.{OneOf}
+use Rattle.demands.specs.EachCall.{OneOf}
 use Rattle.demands.proofs.Demand1Laws.{allAmong, one-of, one-of-more, first-one, unless-one, by-plan, plan-one, write-one, crewNumbers}
 use Rattle.demands.proofs.Demand1Theorem.{demand1, show-numbered, reports-one, search-one}
 use Rattle.records.specs.Records.{planIn, planLength, historyIn, historyLength}
@@ -46,7 +47,7 @@ use Rattle.tureenlark.specs.Library.{shortFault, planShort, instructionL
 use Rattle.tureenlark.specs.Library.{writeTreeNumber, checkTreeNumber, searchNumber, showShort, toldAt, showNumber, reportShort, reportAt}
 use Rattle.tureenlark.specs.Library.{reportNumber, followShort, followed, followNumber, scheduleShort, leastScheduleNumber, screenNumber}
 use Rattle.tureenlark.specs.Library.{answerFault, answerTextNumber}
-use Rattle.tureenlark.specs.LibraryDemands.{Answers}
+use Rattle.tureenlark.specs.LibraryDemands.{ResultOr}
 use Rattle.tureenlark.proofs.DecodeLaws.{some-of, answers-of, told-numbers}
 
 -- a short record is 10
@@ -86,17 +87,17 @@ module _ (plan : List ℕ) where
   abbrev p : Plan
   p = planIn plan
 
-  pub judge-range : Answers 1 1 (2 ∷ 3 ∷ 4 ∷ 10 ∷ []) (judgePlanNumber plan)
+  pub judge-range : ResultOr 1 1 (2 ∷ 3 ∷ 4 ∷ 10 ∷ []) (judgePlanNumber plan)
   judge-range =
       answers-of 1 1 _ (first (planShort plan) (planFault p)) 1 (λ e. (omega arith, omega arith))
       (first-one _ _ _ (short-one _ planLength plan refl) (plan-one _ refl p))
 
-  pub read-plan-range : (text : List ℕ) → Answers 1 1 (1 ∷ 2 ∷ 3 ∷ 4 ∷ 10 ∷ []) (readPlanNumber text plan)
+  pub read-plan-range : (text : List ℕ) → ResultOr 1 1 (1 ∷ 2 ∷ 3 ∷ 4 ∷ 10 ∷ []) (readPlanNumber text plan)
   read-plan-range text =
       answers-of 1 1 _ (first (planShort plan) (readPlan text .fault)) 1 (λ e. (omega arith, omega arith))
       (first-one _ _ _ (short-one _ planLength plan refl) (one-of-more _ _ _ refl (demand1 .read-plan text .numbers)))
 
-  pub write-plan-range : (text : List ℕ) → Answers 11 1025 (2 ∷ 3 ∷ 4 ∷ 10 ∷ []) (writePlanNumber plan text)
+  pub write-plan-range : (text : List ℕ) → ResultOr 11 1025 (2 ∷ 3 ∷ 4 ∷ 10 ∷ []) (writePlanNumber plan text)
   unfolding writePlan
   write-plan-range text =
       let a = writePlan p text in
@@ -104,7 +105,7 @@ module _ (plan : List ℕ) where
       (λ e. plan-written-most p text (first-none (planShort plan) (a .fault) e .1))
       (first-one _ _ _ (short-one _ planLength plan refl) (write-one (planFault p) (planText p) text _ refl (plan-one _ refl p)))
 
-  pub check-range : (tree : List ℕ) → Answers 1 1 (2 ∷ 3 ∷ 4 ∷ 6 ∷ 7 ∷ 10 ∷ []) (checkTreeNumber plan tree)
+  pub check-range : (tree : List ℕ) → ResultOr 1 1 (2 ∷ 3 ∷ 4 ∷ 6 ∷ 7 ∷ 10 ∷ []) (checkTreeNumber plan tree)
   check-range tree =
       answers-of 1 1 _ (first (planShort plan) (checkFault p tree)) 1 (λ e. (omega arith, omega arith))
       (first-one _ _ _ (short-one _ planLength plan refl)
@@ -112,20 +113,20 @@ module _ (plan : List ℕ) where
       (λ wf. one-of-more _ _ _ refl (demand1 .check p tree .numbers wf))
       (λ n h. one-of-more _ _ _ refl (demand1 .check p tree .judged n .numbers))))
 
-  pub search-range : (tree : List ℕ) → Answers 1 191 (2 ∷ 3 ∷ 4 ∷ 10 ∷ 11 ∷ []) (searchNumber plan tree)
+  pub search-range : (tree : List ℕ) → ResultOr 1 191 (2 ∷ 3 ∷ 4 ∷ 10 ∷ 11 ∷ []) (searchNumber plan tree)
   search-range tree =
       let a = searchAnswer p tree in
       answers-of 1 191 _ (first (planShort plan) (a .fault)) (a .value)
       (λ e. searched-most p tree (first-none (planShort plan) (a .fault) e .1))
       (first-one _ _ _ (short-one _ planLength plan refl) (one-of-more _ _ _ refl (search-one p tree)))
 
-pub read-tree-range : (text tree : List ℕ) → Answers 1 191 (5 ∷ 10 ∷ []) (readTreeNumber text tree)
+pub read-tree-range : (text tree : List ℕ) → ResultOr 1 191 (5 ∷ 10 ∷ []) (readTreeNumber text tree)
 read-tree-range text tree =
     let a = readTree text tree in
     answers-of 1 191 _ (a .fault) (a .value)
     (tree-read-most text tree) (demand1 .read-tree text tree .numbers)
 
-pub write-tree-range : (tree text : List ℕ) → Answers 14 1724 (6 ∷ 10 ∷ []) (writeTreeNumber tree text)
+pub write-tree-range : (tree text : List ℕ) → ResultOr 14 1724 (6 ∷ 10 ∷ []) (writeTreeNumber tree text)
 write-tree-range tree text =
     let a = writeTree tree text in
     answers-of 14 1724 _ (a .fault) (a .value) (tree-written-most tree text) (demand1 .write-tree tree text .numbers)
@@ -134,7 +135,7 @@ write-tree-range tree text =
 
 -- one of more numbers
 answers-more :
-    (low high : ℕ) (ks ms : List ℕ) (n : ℕ) → allAmong ks ms ≡ true → Answers low high ms n → Answers low high ks n
+    (low high : ℕ) (ks ms : List ℕ) (n : ℕ) → allAmong ks ms ≡ true → ResultOr low high ms n → ResultOr low high ks n
 answers-more low high ks ms n t (inl r) = inl r
 answers-more low high ks ms n t (inr (k, one, e)) = inr (k, one-of-more ks ms k t one, e)
 
@@ -143,7 +144,7 @@ abbrev withTen : List ℕ
 withTen = 2 ∷ 3 ∷ 4 ∷ 6 ∷ 7 ∷ 8 ∷ 9 ∷ 10 ∷ []
 
 told-range :
-    (f n : ℕ) → OneOf (0 ∷ 10 ∷ []) f → Answers 0 1 crewNumbers n → Answers 0 1 withTen (cond (eqb f 0) n (faultNumber f))
+    (f n : ℕ) → OneOf (0 ∷ 10 ∷ []) f → ResultOr 0 1 crewNumbers n → ResultOr 0 1 withTen (cond (eqb f 0) n (faultNumber f))
 told-range f n one told =
     by-test (eqb f 0)
     (λ y. rw y (answers-more 0 1 withTen crewNumbers n refl told))
@@ -151,7 +152,7 @@ told-range f n one told =
 
 pub show-range :
     (plan tree history instruction : List ℕ) →
-    Answers 0 1 (2 ∷ 3 ∷ 4 ∷ 6 ∷ 7 ∷ 8 ∷ 9 ∷ 10 ∷ []) (showNumber plan tree history instruction)
+    ResultOr 0 1 (2 ∷ 3 ∷ 4 ∷ 6 ∷ 7 ∷ 8 ∷ 9 ∷ 10 ∷ []) (showNumber plan tree history instruction)
 show-range plan tree history instruction =
     told-range (showShort plan history instruction) (toldNumber (toldAt plan tree history))
     (first-one _ _ _ (short-one _ planLength plan refl)
@@ -160,7 +161,7 @@ show-range plan tree history instruction =
 
 pub report-range :
     (plan tree history : List ℕ) (mask : ℕ) →
-    Answers 1 1 (2 ∷ 3 ∷ 4 ∷ 6 ∷ 7 ∷ 8 ∷ 9 ∷ 10 ∷ []) (reportNumber plan tree history mask)
+    ResultOr 1 1 (2 ∷ 3 ∷ 4 ∷ 6 ∷ 7 ∷ 8 ∷ 9 ∷ 10 ∷ []) (reportNumber plan tree history mask)
 report-range plan tree history mask =
     answers-of 1 1 _ (first (reportShort plan history) (reportAt plan tree history mask .fault)) 1 (λ e. (omega arith, omega arith))
     (first-one _ _ _ (first-one _ _ _ (short-one _ planLength plan refl) (short-one _ historyLength history refl))
@@ -171,7 +172,7 @@ pub eight-in : (bs : List ℕ) → length (historyIn bs .masks) ≡ 8
 unfolding listed
 eight-in bs = refl
 
-pub follow-range : (plan tree history calls steps : List ℕ) → Answers 0 8 (10 ∷ []) (followNumber plan tree history calls steps)
+pub follow-range : (plan tree history calls steps : List ℕ) → ResultOr 0 8 (10 ∷ []) (followNumber plan tree history calls steps)
 follow-range plan tree history calls steps =
     let few = demand1 .follow-few (planIn plan) tree (historyIn history) calls (eight-in history) in
     answers-of 0 8 _ (followShort plan history steps) (length (followed plan tree history calls .steps)) (λ e. (omega arith, few))
@@ -185,7 +186,7 @@ digit-most true = (omega arith, omega arith)
 digit-most false = (omega arith, omega arith)
 
 pub least-schedule-range :
-    (plan : List ℕ) (values : ℕ) (schedule : List ℕ) → Answers 0 1 (2 ∷ 3 ∷ 4 ∷ 8 ∷ 10 ∷ []) (leastScheduleNumber plan values schedule)
+    (plan : List ℕ) (values : ℕ) (schedule : List ℕ) → ResultOr 0 1 (2 ∷ 3 ∷ 4 ∷ 8 ∷ 10 ∷ []) (leastScheduleNumber plan values schedule)
 least-schedule-range plan values schedule =
     let a = leastSchedule (planIn plan) values in
     let so = demand1 .verdict (planIn plan) values in
@@ -195,19 +196,23 @@ least-schedule-range plan values schedule =
     (λ wf. one-of-more _ _ _ refl (so .numbers wf))
     (λ n h. one-of-more _ _ _ refl (so .judged n .numbers))))
 
-pub screen-range : (plan : List ℕ) → Answers 0 1 (2 ∷ 3 ∷ 4 ∷ 10 ∷ []) (screenNumber plan)
+pub screen-range : (plan : List ℕ) → ResultOr 0 1 (2 ∷ 3 ∷ 4 ∷ 10 ∷ []) (screenNumber plan)
 screen-range plan =
     let a = screened (planIn plan) in
     answers-of 0 1 _ (first (planShort plan) (a .fault)) (digit (a .value)) (λ e. digit-most (a .value))
-    (first-one _ _ _ (short-one _ planLength plan refl) (one-of-more _ _ _ refl (demand1 .screen (planIn plan) .numbers)))
+    (first-one _ _ _ (short-one _ planLength plan refl) (one-of-more _ _ _ refl (demand1 .screen (planIn plan) .judged .numbers)))
 
-pub answer-range : (input text : List ℕ) → Answers 5 1724 (10 ∷ []) (answerTextNumber input text)
+pub answer-range : (input text : List ℕ) → ResultOr 5 1724 (10 ∷ []) (answerTextNumber input text)
 answer-range input text =
     let fits = answer-fits input in
     let some : 5 ≤ length (answerText input) =
     ⊎-elim
-    (λ (bs, legal, e). let long = ap length e in let all = text-length bs in omega arith)
-    (λ (n, one, e). let long = ap length e in omega arith)
-    (demand1 .program input .one-of-these) in
+    (λ (n, fault, e). let long = ap length e in omega arith)
+    (λ (q, sized, wf, text, printed).
+    ⊎-elim
+    (λ (none, e). let long = ap length e in omega arith)
+    (λ (c, (t, f, e)). let long = ap length e in let all = text-length (treeBytes (networkOf q) t) in omega arith)
+    printed)
+    (demand1 .program input) in
     answers-of 5 1724 _ (answerFault input text) (length (answerText input)) (λ e. (some, fits))
     (unless-one _ (leb (length (answerText input)) (length text)) refusal.Buffer refl)

@@ -29,7 +29,7 @@ use Rattle.run.proofs.RunTheorems.{accepted-longer, refused-same}
 use Rattle.following.specs.Calls.{Progress, begun, afterCalls}
 use Rattle.following.specs.ThisRun.{theRun}
 use Rattle.following.specs.Following.{callsIn, zeroStep, stepRecord, followedRecord}
-use Rattle.demands.specs.Calls.{AnswersShow, AnswersReport}
+use Rattle.demands.specs.EachCall.{AnswersShow, AnswersReport}
 use Rattle.demands.specs.Crews.{Crew}
 use Rattle.demands.specs.Demand3.{EveryCrew, EveryTwoCrews, Demand3For}
 use Rattle.demands.proofs.Demand1Theorem.{demand1, show-numbered}
@@ -42,7 +42,7 @@ use Rattle.answers.specs.Steps.{toldBytes, stepBytes}
 use Rattle.tureenlark.specs.Library.{planShort, historyShort, shortFault, instructionLength, stepsLength, showShort, toldAt, showNumber}
 use Rattle.tureenlark.specs.Library.{showLeft, reportShort, reportAt, reportNumber, reportLeft, searchNumber, searchLeft}
 use Rattle.tureenlark.specs.Library.{stepsBytes, followShort, followed, followNumber, followHistory, followSteps}
-use Rattle.tureenlark.specs.Exported.{refusals, faultIn, toldIn, runOf, bytesOfSteps}
+use Rattle.tureenlark.specs.Exported.{refusals, faultIn, moveIn, toldIn, runOf, bytesOfSteps}
 use Rattle.tureenlark.specs.ThisLibrary.{library}
 use Rattle.tureenlark.proofs.LibraryLaws.{long, then-short}
 use Rattle.tureenlark.proofs.FollowLaws.{steps-length}
@@ -93,15 +93,22 @@ module _ (plan tree history instruction : List ℕ) where
         (toldIn (showNumber plan tree history instruction) (showLeft plan tree history instruction))
     show-so = subst (AnswersShow (planIn plan) tree (historyIn history)) (sym told-is) (demand1 .show (planIn plan) tree (historyIn history))
 
+  -- an instruction's bytes, and what stood behind them
+  abbrev ThreeBytes : List ℕ → Type 0
+  ThreeBytes left = left ≡ moveIn left .slot ∷ moveIn left .points ∷ moveIn left .choices ∷ drop 3 instruction
+
   bytes-by-told :
-      (x : Told) → (toldNumber x ≡ 1 → drop 3 (toldBytes x ++ drop (length (toldBytes x)) instruction) ≡ drop 3 instruction)
+      (x : Told) → let left = toldBytes x ++ drop (length (toldBytes x)) instruction in
+      (toldNumber x ≡ 1 → left ≡ moveIn left .slot ∷ moveIn left .points ∷ moveIn left .choices ∷ drop 3 instruction)
       × (¬ (toldNumber x ≡ 1) → toldBytes x ++ drop (length (toldBytes x)) instruction ≡ instruction)
   bytes-by-told (instruct m) = (λ e. refl, λ n. absurd (n refl))
   bytes-by-told complete = (λ e. let z : _≡_ {A = ℕ} 0 1 = e in absurd (omega arith), λ n. refl)
   bytes-by-told (refuse k) = (λ e. absurd (omega (arith, e)), λ n. refl)
 
   pub show-bytes-so :
-      (showNumber plan tree history instruction ≡ 1 → drop 3 (showLeft plan tree history instruction) ≡ drop 3 instruction)
+      let left = showLeft plan tree history instruction in
+      (showNumber plan tree history instruction ≡ 1 →
+      left ≡ moveIn left .slot ∷ moveIn left .points ∷ moveIn left .choices ∷ drop 3 instruction)
       × (¬ (showNumber plan tree history instruction ≡ 1) → showLeft plan tree history instruction ≡ instruction)
   show-bytes-so =
       by-test (eqb fault 0)
@@ -109,12 +116,12 @@ module _ (plan tree history instruction : List ℕ) where
       let left = front-is fault (toldBytes told) instruction e in
       let n = number-is e in
       let so = bytes-by-told told in (
-        λ one. ap (drop 3) left ∙ so .0 (sym n ∙ one),
+        λ one. subst ThreeBytes (sym left) (so .0 (sym n ∙ one)),
         λ some. left ∙ so .1 (λ one. some (n ∙ one)),
       ))
       (λ z. let some = differs fault 0 z in
       let stays = kept-is fault (toldBytes told) instruction some in (
-        λ one. ap (drop 3) stays,
+        λ one. absurd (omega (arith, number-short some, one)),
         λ n. stays,
       ))
 
@@ -225,7 +232,7 @@ module _ (plan lent : List ℕ) (enough : planLength ≤ length plan) (small : s
   promise =
       let none = sym (fault-is (planIn plan) lent) ∙ ap (λ (a : Answer ℕ). a .fault) answer-is in
       let (room, wf, c) = answered-exactly (planIn plan) lent .0 none in
-      demand3 (planIn plan) lent wf room (searched.Nodes (searchNumber plan lent)) (searchLeft plan lent)
+      demand3 (planIn plan) lent wf room .1 (searched.Nodes (searchNumber plan lent)) (searchLeft plan lent)
       (record { answer = sym answer-is; buffer = search-left-is plan enough lent })
 
   pub every-crew-so : (crew : Crew (runOf library plan) (planIn plan) made) → EveryCrew crew

@@ -2,6 +2,7 @@
 -- bytes that a program hands over and gets back. proofs/LibraryTheorem.antt proves it of this library. To be believed, for the library
 -- only.
 use mathlib.Core.Path.{_≡_}
+use mathlib.Core.Bool.{true}
 use mathlib.Core.Logic.{_↔_, _⊎_}
 use mathlib.Core.List.{List, [], _∷_, _++_}
 use Prim.Native.Nat.{ℕ, _+_, _≤_, _<_}
@@ -16,24 +17,26 @@ use Rattle.network.specs.Fixed.{Setting, PassesScreen}
 use Rattle.plan.specs.declared.Plan.{Plan}
 use Rattle.plan.specs.Plan.{networkOf}
 use Rattle.plan.specs.WellFormed.{WellFormed}
-use Rattle.tree.specs.Nodes.{mostBytes, firstNodes, overwritten}
+use Rattle.frame.specs.Frame.{Bytes}
+use Rattle.tree.specs.Nodes.{mostBytes, legalLength, nodeCount, firstNodes, overwritten}
 use Rattle.tree.specs.Trees.{treeBytes}
 use Rattle.plan_text.specs.PlanText.{planText}
+use Rattle.tree_text.specs.TreeText.{treeText}
 use Rattle.following.specs.Calls.{begun, afterCalls}
 use Rattle.following.specs.Following.{callsIn}
 use Rattle.verdict.specs.declared.Found.the-variants as found
 use Rattle.verdict.specs.Says.{Says}
-use Rattle.demands.specs.Calls.{Sized, OneOf, AnswersJudge, AnswersReadPlan, AnswersWritePlan, AnswersReadTree, AnswersWriteTree}
-use Rattle.demands.specs.Calls.{AnswersCheck, AnswersSearch, AnswersShow, AnswersReport, AnswersVerdict, AnswersProgram}
+use Rattle.demands.specs.EachCall.{Sized, OneOf, AnswersJudge, AnswersReadPlan, AnswersWritePlan, AnswersReadTree, AnswersWriteTree}
+use Rattle.demands.specs.EachCall.{AnswersCheck, AnswersSearch, AnswersShow, AnswersReport, AnswersVerdict, AnswersScreen, AnswersProgram}
 use Rattle.demands.specs.Demand2.{DescribesStrategy}
 use Rattle.demands.specs.Crews.{Crew}
 use Rattle.demands.specs.Demand3.{EveryCrew, EveryTwoCrews}
 use Rattle.records.specs.Records.{planIn, planBytes, planLength, historyIn, historyBytes, historyLength}
-use Rattle.tureenlark.specs.Exported.{Exported, refusals, answerIn, faultIn, toldIn, runOf, bytesOfSteps}
+use Rattle.tureenlark.specs.Exported.{Exported, refusals, answerIn, faultIn, moveIn, toldIn, runOf, bytesOfSteps}
 
 -- a result from `low` to `high`, or a refusal with one of these numbers
-abbrev pub Answers : ℕ → ℕ → List ℕ → ℕ → Type 0
-Answers low high numbers n = ((low ≤ n) × (n ≤ high)) ⊎ ((k : ℕ) × OneOf numbers k × (n ≡ refusals + k))
+abbrev pub ResultOr : ℕ → ℕ → List ℕ → ℕ → Type 0
+ResultOr low high numbers n = ((low ≤ n) × (n ≤ high)) ⊎ ((k : ℕ) × OneOf numbers k × (n ≡ refusals + k))
 
 -- refused with 10
 abbrev pub Ten : ℕ → Type 0
@@ -41,25 +44,26 @@ Ten n = n ≡ refusals + 10
 
 pub record LibraryDemands (L : Exported) : Type 0 where
   -- ---- The numbers that each call can answer
-  pub judge-numbers : (plan : List ℕ) → Answers 1 1 (2 ∷ 3 ∷ 4 ∷ 10 ∷ []) (L .judgePlan plan)
-  pub read-plan-numbers : (text plan : List ℕ) → Answers 1 1 (1 ∷ 2 ∷ 3 ∷ 4 ∷ 10 ∷ []) (L .readPlan text plan)
-  pub write-plan-numbers : (plan text : List ℕ) → Answers 11 1025 (2 ∷ 3 ∷ 4 ∷ 10 ∷ []) (L .writePlan plan text)
-  pub read-tree-numbers : (text tree : List ℕ) → Answers 1 191 (5 ∷ 10 ∷ []) (L .readTree text tree)
-  pub write-tree-numbers : (tree text : List ℕ) → Answers 14 1724 (6 ∷ 10 ∷ []) (L .writeTree tree text)
-  pub check-numbers : (plan tree : List ℕ) → Answers 1 1 (2 ∷ 3 ∷ 4 ∷ 6 ∷ 7 ∷ 10 ∷ []) (L .checkTree plan tree)
-  pub search-numbers : (plan tree : List ℕ) → Answers 1 191 (2 ∷ 3 ∷ 4 ∷ 10 ∷ 11 ∷ []) (L .search plan tree)
+  pub judge-numbers : (plan : List ℕ) → ResultOr 1 1 (2 ∷ 3 ∷ 4 ∷ 10 ∷ []) (L .judgePlan plan)
+  pub read-plan-numbers : (text plan : List ℕ) → ResultOr 1 1 (1 ∷ 2 ∷ 3 ∷ 4 ∷ 10 ∷ []) (L .readPlan text plan)
+  pub write-plan-numbers : (plan text : List ℕ) → ResultOr 11 1025 (2 ∷ 3 ∷ 4 ∷ 10 ∷ []) (L .writePlan plan text)
+  pub read-tree-numbers : (text tree : List ℕ) → ResultOr 1 191 (5 ∷ 10 ∷ []) (L .readTree text tree)
+  pub write-tree-numbers : (tree text : List ℕ) → ResultOr 14 1724 (6 ∷ 10 ∷ []) (L .writeTree tree text)
+  pub check-numbers : (plan tree : List ℕ) → ResultOr 1 1 (2 ∷ 3 ∷ 4 ∷ 6 ∷ 7 ∷ 10 ∷ []) (L .checkTree plan tree)
+  pub search-numbers : (plan tree : List ℕ) → ResultOr 1 191 (2 ∷ 3 ∷ 4 ∷ 10 ∷ 11 ∷ []) (L .search plan tree)
   pub show-numbers :
       (plan tree history instruction : List ℕ) →
-      Answers 0 1 (2 ∷ 3 ∷ 4 ∷ 6 ∷ 7 ∷ 8 ∷ 9 ∷ 10 ∷ []) (L .show plan tree history instruction)
+      ResultOr 0 1 (2 ∷ 3 ∷ 4 ∷ 6 ∷ 7 ∷ 8 ∷ 9 ∷ 10 ∷ []) (L .show plan tree history instruction)
   pub report-numbers :
       (plan tree history : List ℕ) (mask : ℕ) →
-      Answers 1 1 (2 ∷ 3 ∷ 4 ∷ 6 ∷ 7 ∷ 8 ∷ 9 ∷ 10 ∷ []) (L .report plan tree history mask)
-  pub follow-numbers : (plan tree history calls steps : List ℕ) → Answers 0 8 (10 ∷ []) (L .follow plan tree history calls steps)
+      ResultOr 1 1 (2 ∷ 3 ∷ 4 ∷ 6 ∷ 7 ∷ 8 ∷ 9 ∷ 10 ∷ []) (L .report plan tree history mask)
+  pub follow-numbers : (plan tree history calls steps : List ℕ) → ResultOr 0 8 (10 ∷ []) (L .follow plan tree history calls steps)
   pub least-schedule-numbers :
-      (plan : List ℕ) (values : ℕ) (schedule : List ℕ) → Answers 0 1 (2 ∷ 3 ∷ 4 ∷ 8 ∷ 10 ∷ []) (L .leastSchedule plan values schedule)
-  pub screen-numbers : (plan : List ℕ) → Answers 0 1 (2 ∷ 3 ∷ 4 ∷ 10 ∷ []) (L .screen plan)
-  pub answer-numbers : (input text : List ℕ) → Answers 5 1724 (10 ∷ []) (L .answer input text)
-  -- ---- A record that is too short: 10, and no byte changes; but the place of a schedule that was to be made, where there is one, is zero
+      (plan : List ℕ) (values : ℕ) (schedule : List ℕ) → ResultOr 0 1 (2 ∷ 3 ∷ 4 ∷ 8 ∷ 10 ∷ []) (L .leastSchedule plan values schedule)
+  pub screen-numbers : (plan : List ℕ) → ResultOr 0 1 (2 ∷ 3 ∷ 4 ∷ 10 ∷ []) (L .screen plan)
+  pub answer-numbers : (input text : List ℕ) → ResultOr 5 1724 (10 ∷ []) (L .answer input text)
+  -- ---- A record that is too short, which document 01 doesn't know: 10 before anything else, and no byte changes; but the place of a
+  -- schedule that was to be made, where there is one, is zero
   pub judge-short : (plan : List ℕ) → length plan < planLength → Ten (L .judgePlan plan)
   pub read-plan-short :
       (text plan : List ℕ) → length plan < planLength → Ten (L .readPlan text plan) × (L .readPlanLeft text plan ≡ plan)
@@ -110,6 +114,11 @@ pub record LibraryDemands (L : Exported) : Type 0 where
   -- ---- Trees
   pub read-tree : (text tree : List ℕ) → AnswersReadTree text tree (answerIn (L .readTree text tree)) (L .readTreeLeft text tree)
   pub write-tree : (tree text : List ℕ) → AnswersWriteTree tree text (answerIn (L .writeTree tree text)) (L .writeTreeLeft tree text)
+  -- what is written of a tree reads back, and so no two trees are written as one text
+  pub tree-back :
+      (tree text buffer : List ℕ) → Bytes tree → legalLength (length tree) ≡ true → length (treeText tree) ≤ length text →
+      mostBytes ≤ length buffer → let written = take (L .writeTree tree text) (L .writeTreeLeft tree text) in
+      (L .readTree written buffer ≡ nodeCount tree) × (L .readTreeLeft written buffer ≡ tree ++ drop (length tree) buffer)
   pub check : (plan tree : List ℕ) → planLength ≤ length plan → AnswersCheck (planIn plan) tree (faultIn (L .checkTree plan tree))
   -- yes exactly for a well-formed plan and a tree whose strategy is dynamic and viable
   pub check-yes :
@@ -125,14 +134,11 @@ pub record LibraryDemands (L : Exported) : Type 0 where
   pub search-nobody :
       (plan tree : List ℕ) → planLength ≤ length plan → L .search plan tree ≡ refusals + 11 → (π : Policy) →
       ¬ SucceedsAlways (networkOf (planIn plan)) π
-  pub search-has-tree :
-      (plan : List ℕ) → planLength ≤ length plan → WellFormed (planIn plan) → DynamicallyConsistent (networkOf (planIn plan)) →
-      (t : Tree) × FirstMoves (networkOf (planIn plan)) t (start (networkOf (planIn plan)))
-  pub search-gets-tree :
+  pub search-tree :
       (plan tree : List ℕ) → planLength ≤ length plan → WellFormed (planIn plan) → mostBytes ≤ length tree →
-      DynamicallyConsistent (networkOf (planIn plan)) → (t : Tree) →
-      FirstMoves (networkOf (planIn plan)) t (start (networkOf (planIn plan))) →
-      (L .search plan tree ≡ length (preorder (networkOf (planIn plan)) t))
+      DynamicallyConsistent (networkOf (planIn plan)) →
+      (t : Tree) × FirstMoves (networkOf (planIn plan)) t (start (networkOf (planIn plan)))
+      × (L .search plan tree ≡ length (preorder (networkOf (planIn plan)) t))
       × (L .searchLeft plan tree ≡ overwritten (treeBytes (networkOf (planIn plan)) t) tree)
   -- ---- The crew's run
   pub show :
@@ -142,7 +148,8 @@ pub record LibraryDemands (L : Exported) : Type 0 where
   -- an instruction's three bytes, and no byte behind them; else none changes
   pub show-bytes :
       (plan tree history instruction : List ℕ) → let left = L .showLeft plan tree history instruction in
-      (L .show plan tree history instruction ≡ 1 → drop 3 left ≡ drop 3 instruction)
+      (L .show plan tree history instruction ≡ 1 →
+      left ≡ moveIn left .slot ∷ moveIn left .points ∷ moveIn left .choices ∷ drop 3 instruction)
       × (¬ (L .show plan tree history instruction ≡ 1) → left ≡ instruction)
   pub report :
       (plan tree history instruction : List ℕ) (mask : ℕ) → planLength ≤ length plan → historyLength ≤ length history →
@@ -153,7 +160,8 @@ pub record LibraryDemands (L : Exported) : Type 0 where
   pub report-bytes :
       (plan tree history : List ℕ) (mask : ℕ) → historyLength ≤ length history → let left = L .reportLeft plan tree history mask in
       (left ≡ historyBytes (historyIn left) ++ drop historyLength history) × (¬ (L .report plan tree history mask ≡ 1) → left ≡ history)
-  -- the crew's promises, over the tree that the search made: each call is given the nine bytes that the call before left
+  -- The crew's promises, over the tree that the search made: each call is given the nine bytes that the call before left (`report-bytes`: they
+  -- are those of the history that they hold).
   pub every-crew :
       (plan lent : List ℕ) → planLength ≤ length plan → L .search plan lent < refusals →
       (crew : Crew (runOf L plan) (planIn plan) (firstNodes (L .searchLeft plan lent) (L .search plan lent))) → EveryCrew crew
@@ -178,7 +186,9 @@ pub record LibraryDemands (L : Exported) : Type 0 where
       Setting (networkOf (planIn plan)) values →
       let n = L .leastSchedule plan values schedule in let slots = take 8 (L .leastScheduleLeft plan values schedule) in
       ((n ≡ 1) × Says (planIn plan) values found.Least slots) ⊎ ((n ≡ 0) × Says (planIn plan) values found.Nothing slots)
-  pub screen : (plan : List ℕ) → planLength ≤ length plan → AnswersJudge (planIn plan) (faultIn (L .screen plan))
+  pub screen :
+      (plan : List ℕ) → planLength ≤ length plan → let n = L .screen plan in
+      AnswersScreen (planIn plan) (record { fault = faultIn n; value = eqb n 1 })
   pub screen-passes :
       (plan : List ℕ) → planLength ≤ length plan → WellFormed (planIn plan) →
       ((L .screen plan ≡ 1) ↔ PassesScreen (networkOf (planIn plan))) × ((L .screen plan ≡ 0) ↔ (¬ PassesScreen (networkOf (planIn plan))))

@@ -60,10 +60,11 @@ pub record AnswersJudge (p : Plan) (n : ℕ) : Type 0 where
   pub letters : (n ≡ 3) ↔ (FineHead p × ¬ FineLetters p)
   pub constraints : (n ≡ 4) ↔ (FineHead p × FineLetters p × ¬ FineConstraints p)
 
--- reading a plan text: 1, 2, 3, 4 by its first faulty frame, beside which the plan's place is all zero
+-- reading a plan text: the well-formed plan whose text it is; or 1, 2, 3, 4 by its first faulty frame, beside which the place is all zero
 pub record AnswersReadPlan (t : List ℕ) (a : Answer Plan) : Type 0 where
   pub numbers : OneOf (0 ∷ 1 ∷ 2 ∷ 3 ∷ 4 ∷ []) (a .fault)
   pub first : (n : ℕ) → ¬ (n ≡ 0) → (a .fault ≡ n) ↔ FirstFault t n
+  pub read : a .fault ≡ 0 → Sized (a .value) × WellFormed (a .value) × (t ≡ planText (a .value))
   pub zero-place : ¬ (a .fault ≡ 0) → a .value ≡ zeroPlan
 
 -- writing a plan: 2, 3, 4, then 10; else the text's length, and only its bytes change
@@ -72,6 +73,7 @@ pub record AnswersWritePlan (p : Plan) (before : List ℕ) (a : Answer ℕ) (aft
   pub numbers : WellFormed p → OneOf (0 ∷ 10 ∷ []) (a .fault)
   pub room : WellFormed p → (a .fault ≡ 10) ↔ (length before < length (planText p))
   pub counted : a .fault ≡ 0 → a .value ≡ length (planText p)
+  pub beside : ¬ (a .fault ≡ 0) → a .value ≡ 0
   pub bytes : Fills (a .fault) (planText p) before after
 
 -- ---- Trees and their texts
@@ -82,7 +84,7 @@ pub record AnswersReadTree (t before : List ℕ) (a : Answer ℕ) (after : List 
   pub room : (a .fault ≡ 10) ↔ (length before < mostBytes)
   pub text : mostBytes ≤ length before → (a .fault ≡ 5) ↔ (¬ ((bs : List ℕ) × SaysTree t bs))
   pub read : a .fault ≡ 0 → (bs : List ℕ) × SaysTree t bs × (length bs ≡ 3 * a .value) × Fills 0 bs before after
-  pub refused : ¬ (a .fault ≡ 0) → after ≡ before
+  pub refused : ¬ (a .fault ≡ 0) → (a .value ≡ 0) × (after ≡ before)
 
 -- writing a tree's bytes: 6 for their length, then 10; else the text's length, and only its bytes change
 pub record AnswersWriteTree (bs before : List ℕ) (a : Answer ℕ) (after : List ℕ) : Type 0 where
@@ -90,12 +92,14 @@ pub record AnswersWriteTree (bs before : List ℕ) (a : Answer ℕ) (after : Lis
   pub shape : (a .fault ≡ 6) ↔ (legalLength (length bs) ≡ false)
   pub room : legalLength (length bs) ≡ true → (a .fault ≡ 10) ↔ (length before < length (treeText bs))
   pub counted : a .fault ≡ 0 → a .value ≡ length (treeText bs)
+  pub beside : ¬ (a .fault ≡ 0) → a .value ≡ 0
   pub bytes : Fills (a .fault) (treeText bs) before after
 
--- checking: 2, 3, 4, then 6 where the bytes are no tree's, then 7 where its strategy is not viable
+-- checking: 2, 3, 4, then 6 for the length and where the bytes are no tree's, then 7 where not every path keeps its relevant constraints
 pub record AnswersCheck (p : Plan) (bs : List ℕ) (n : ℕ) : Type 0 where
   pub judged : ¬ WellFormed p → AnswersJudge p n
   pub numbers : WellFormed p → OneOf (0 ∷ 6 ∷ 7 ∷ []) n
+  pub length-first : WellFormed p → legalLength (length bs) ≡ false → n ≡ 6
   pub shape : WellFormed p → (n ≡ 6) ↔ (¬ ((t : Tree) × Describes (networkOf p) bs t))
   pub broken : WellFormed p → (n ≡ 7) ↔ ((t : Tree) × Describes (networkOf p) bs t × (¬ Viable (networkOf p) (strategyOf (networkOf p) t)))
 
@@ -110,6 +114,7 @@ pub record AnswersSearch (p : Plan) (before : List ℕ) (a : Answer ℕ) (after 
   pub tree :
       a .fault ≡ 0 → (bs : List ℕ) × (bs ≡ firstNodes after (a .value)) × (length bs ≡ 3 * a .value) × AnswersCheck p bs 0
       × (after ≡ overwritten bs before)
+  pub beside : ¬ (a .fault ≡ 0) → a .value ≡ 0
   pub hopeless : a .fault ≡ 11 → after ≡ overwritten [] before
   pub refused : ¬ (a .fault ≡ 0) → ¬ (a .fault ≡ 11) → after ≡ before
   pub past : drop mostBytes after ≡ drop mostBytes before
@@ -146,14 +151,22 @@ pub record AnswersVerdict (p : Plan) (values : ℕ) (a : Answer Fixed) : Type 0 
   pub refused : ¬ (a .fault ≡ 0) → a .value ≡ none
   pub zeros : a .value .scheduled ≡ false → a .value .slots ≡ replicate 8 0
 
--- The program: the first 1,026 bytes of the input are judged as a plan, and one 7F frame is printed, or the text of the tree of first moves.
-pub record AnswersProgram (input printed : List ℕ) : Type 0 where
-  pub refused : (n : ℕ) → FirstFault (take 1026 input) n → printed ≡ faultText n
-  pub hopeless :
-      (p : Plan) → Sized p → WellFormed p → take 1026 input ≡ planText p → ¬ DynamicallyConsistent (networkOf p) → printed ≡ faultText 11
-  pub tree :
-      (p : Plan) → Sized p → WellFormed p → take 1026 input ≡ planText p → DynamicallyConsistent (networkOf p) → (t : Tree) →
-      FirstMoves (networkOf p) t (start (networkOf p)) → printed ≡ treeText (treeBytes (networkOf p) t)
-  pub one-of-these :
-      ((bs : List ℕ) × (legalLength (length bs) ≡ true) × (printed ≡ treeText bs))
-      ⊎ ((n : ℕ) × OneOf (1 ∷ 2 ∷ 3 ∷ 4 ∷ 11 ∷ []) n × (printed ≡ faultText n))
+-- the screen: 2, 3, 4; no beside a refusal
+pub record AnswersScreen (p : Plan) (a : Answer Bool) : Type 0 where
+  pub judged : AnswersJudge p (a .fault)
+  pub beside : ¬ (a .fault ≡ 0) → a .value ≡ false
+
+-- the frame of 11, or the text of the tree of first moves
+abbrev pub PrintedFor : Plan → List ℕ → Type 0
+PrintedFor p printed =
+    ((¬ DynamicallyConsistent (networkOf p)) × (printed ≡ faultText 11))
+    ⊎ (DynamicallyConsistent (networkOf p)
+    × ((t : Tree) × FirstMoves (networkOf p) t (start (networkOf p)) × (printed ≡ treeText (treeBytes (networkOf p) t))))
+
+-- The program: the first 1,026 bytes of the input are judged as a plan. What is printed is the 7F frame of the number of their first faulty
+-- frame; or they are the text of a well-formed plan, and it is the frame of 11 where that has no strategy, else the text of the tree of first
+-- moves.
+abbrev pub AnswersProgram : List ℕ → List ℕ → Type 0
+AnswersProgram input printed =
+    ((n : ℕ) × FirstFault (take 1026 input) n × (printed ≡ faultText n))
+    ⊎ ((p : Plan) × Sized p × WellFormed p × (take 1026 input ≡ planText p) × PrintedFor p printed)
