@@ -1,4 +1,4 @@
-//! What must be believed, on one page: every name is followed from the statements, and nothing else is to be believed.
+//! What must be believed, on two pages: every name is followed from the statements, and nothing else is to be believed.
 //!
 //! `antt` takes a file of definitions apart, `scope` says which names a declaration mentions, `definitions` what a name
 //! means in its file, `code` finds the code's types, `reach` follows the names, `page` writes what was found, and
@@ -17,29 +17,34 @@ use definitions::Definitions;
 use reach::Reached;
 use std::path::Path;
 
-/// The page, and how long it may be.
+/// The pages, in the order in which they are read, and how long each may be.
 pub const PAGE: &str = "docs/BELIEVED.md";
+pub const CALLS: &str = "docs/BELIEVED-CALLS.md";
+pub const PAGES: [&str; 2] = [PAGE, CALLS];
 pub const MOST_LINES: usize = 800;
 
-/// A statement: its title on the page, its word in headers, and its roots: crate, file and name of each.
+/// A statement: its page, its title there, its word in headers, and its roots: crate, file and name of each.
 pub struct Statement<'a> {
+    pub page: &'a str,
     pub title: &'a str,
     pub word: &'a str,
     pub roots: &'a [(&'a str, &'a str, &'a str)],
 }
 
-/// The statements, in the order in which they are read.
+/// The statements, in the order of the documents.
 pub const STATEMENTS: [Statement; 6] = [
-    Statement { title: "Demand 1", word: "demand 1", roots: &[("demands", "Demand1", "Demand1")] },
-    Statement { title: "Demand 2", word: "demand 2", roots: &[("demands", "Demand2", "Demand2")] },
-    Statement { title: "Demand 3", word: "demand 3", roots: &[("demands", "Demand3", "Demand3")] },
+    Statement { page: CALLS, title: "Demand 1", word: "demand 1", roots: &[("demands", "Demand1", "Demand1")] },
+    Statement { page: PAGE, title: "Demand 2", word: "demand 2", roots: &[("demands", "Demand2", "Demand2")] },
+    Statement { page: PAGE, title: "Demand 3", word: "demand 3", roots: &[("demands", "Demand3", "Demand3")] },
     Statement {
+        page: CALLS,
         title: "Fixed outcomes and the screen",
         word: "the verdict",
         roots: &[("demands", "FixedOutcomes", "FixedOutcomes")],
     },
     // what the cases of answers mean of which no demand speaks, but only contracts
     Statement {
+        page: CALLS,
         title: "How further answers of the code are read",
         word: "the contracts",
         roots: &[
@@ -51,6 +56,7 @@ pub const STATEMENTS: [Statement; 6] = [
         ],
     },
     Statement {
+        page: CALLS,
         title: "The library",
         word: "the library",
         roots: &[("tureenlark", "LibraryDemands", "LibraryDemands")],
@@ -72,8 +78,9 @@ impl<'a> Believed<'a> {
         Ok(Believed { root, statements, definitions, reached })
     }
 
-    pub fn page(&self) -> String {
-        page::page(&self.definitions, self.statements, &self.reached)
+    /// Each page with its text.
+    pub fn pages(&self) -> Vec<(&'static str, String)> {
+        page::pages(&self.definitions, self.statements, &self.reached)
     }
 
     /// What is wrong: a name that leads nowhere, a header that disagrees, a page that is not current or too long.
@@ -82,18 +89,23 @@ impl<'a> Believed<'a> {
         found.sort();
         found.dedup();
         found.extend(headers::faults(self.root, &self.definitions, self.statements, &self.reached));
-        let page = self.page();
-        if read(&self.root.join(PAGE)).ok().as_ref() != Some(&page) {
-            found.push(format!("{PAGE} is not current: gate believed --write makes it"));
-        }
-        if page.lines().count() > MOST_LINES {
-            found.push(format!("{PAGE} has {} lines, more than {MOST_LINES}", page.lines().count()));
+        for (file, page) in self.pages() {
+            if read(&self.root.join(file)).ok().as_ref() != Some(&page) {
+                found.push(format!("{file} is not current: gate believed --write makes it"));
+            }
+            if page.lines().count() > MOST_LINES {
+                found.push(format!("{file} has {} lines, more than {MOST_LINES}", page.lines().count()));
+            }
         }
         found
     }
 
     pub fn write(&self) -> Result<(), String> {
-        std::fs::write(self.root.join(PAGE), self.page()).map_err(|e| format!("{PAGE}: {e}"))
+        let written = self
+            .pages()
+            .into_iter()
+            .map(|(file, page)| std::fs::write(self.root.join(file), page).map_err(|e| format!("{file}: {e}")));
+        written.collect()
     }
 
     pub fn write_headers(&self) -> Result<(), String> {

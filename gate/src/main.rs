@@ -132,7 +132,9 @@ fn believed(words: &[String]) -> Result<usize, String> {
     }
     let faults = believed.faults();
     faults.iter().for_each(|f| println!("{f}"));
-    println!("{} lines to be believed, {} faults", believed.page().lines().count(), faults.len());
+    let pages = believed.pages();
+    let lines = pages.iter().map(|(file, page)| format!("{file} {}", page.lines().count()));
+    println!("lines to be believed: {}; {} faults", lines.collect::<Vec<_>>().join(", "), faults.len());
     Ok(faults.len())
 }
 

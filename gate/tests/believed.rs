@@ -1,13 +1,13 @@
 //! What must be believed, in planted repositories: what is reached, what is shown, and each fault.
 
-use gate::believed::{Believed, Statement, PAGE};
+use gate::believed::{Believed, Statement, CALLS, PAGE};
 use std::fs;
 use std::path::{Path, PathBuf};
 use std::sync::atomic::{AtomicUsize, Ordering};
 
 const STATEMENTS: [Statement; 2] = [
-    Statement { title: "Demand 1", word: "demand 1", roots: &[("two", "Claim", "Claim")] },
-    Statement { title: "The rest", word: "the rest", roots: &[("one", "Rest", "rest")] },
+    Statement { page: PAGE, title: "Demand 1", word: "demand 1", roots: &[("two", "Claim", "Claim")] },
+    Statement { page: CALLS, title: "The rest", word: "the rest", roots: &[("one", "Rest", "rest")] },
 ];
 
 const LIST: &str = "-- Definitions: the modules of this folder, in the order in which they are read.\n";
@@ -157,14 +157,15 @@ fn nothing_is_wrong_at_first() {
 
 #[test]
 fn definitions_stand_before_their_users_with_their_comments() {
-    let page = Planted::new().text(PAGE);
+    let planted = Planted::new();
+    let page = planted.text(PAGE) + &planted.text(CALLS);
     let at = |words: &str| page.find(words).unwrap_or_else(|| panic!("{words} is not on the page:\n{page}"));
     let order = [
         "## Demand 1",
         "-- == one/src/lib.rt",
-        "// A shade (not shown before what names it).\npub struct Shade {",
-        "// A colour.\npub enum Colour {\n    Red,\n    Shade(Shade),\n}",
-        "-- == one/specs/Base.antt\n-- ---- two numbers\n-- a pair\npub record Pair : Type 0 where\n",
+        "// A shade (not shown before what names it).\npub struct Shade { pub depth: u8 }\n",
+        "// A colour.\npub enum Colour { Red, Shade(Shade) }\n",
+        "-- ---- two numbers  == one/specs/Base.antt\n-- a pair\npub record Pair : Type 0 where\n",
         "  -- the other one\n  pub right : ℕ\n",
         "pub data Sign",
         "abbrev pub worth",
@@ -182,8 +183,10 @@ fn definitions_stand_before_their_users_with_their_comments() {
 
 #[test]
 fn the_top_counts_the_lines() {
-    let page = Planted::new().text(PAGE);
-    assert!(page.contains("\n| Demand 1 | 30 | 30 |\n| The rest | 2 | 8 |\n| all | 32 | |\n"), "{page}");
+    let planted = Planted::new();
+    let (page, calls) = (planted.text(PAGE), planted.text(CALLS));
+    assert!(page.contains("\n| Demand 1 | 25 | 25 |\n| all | 25 | |\n"), "{page}");
+    assert!(calls.contains("\n| The rest | 2 | 8 |\n| all | 2 | |\n"), "{calls}");
 }
 
 #[test]

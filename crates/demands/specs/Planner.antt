@@ -9,35 +9,28 @@ use Rattle.run.specs.declared.History.{History}
 use Rattle.following.specs.Calls.{Run, Progress}
 use Rattle.verdict.specs.Answers.{Fixed}
 
--- What each call answers, and what it leaves in a buffer that is lent to it. A fault is document 01's number, 0 for none.
+-- What each call answers, and what it leaves in a buffer that is lent to it, given last. A fault is document 01's number, 0 for none.
 pub record Planner : Type 0 where
-  -- a plan record: its fault
+  -- a plan record; a plan text; a plan record written: the text's length
   pub judges : Plan → ℕ
-  -- a plan text: the fault, the plan
   pub readsPlan : List ℕ → Answer Plan
-  -- a plan record and a buffer: the fault, the text's length; the buffer afterwards
   pub writesPlan : Plan → List ℕ → Answer ℕ
   pub planWritten : Plan → List ℕ → List ℕ
-  -- a tree text and a buffer: the fault, the number of nodes; the buffer afterwards
+  -- a tree text read: the number of nodes; a tree's bytes written: the text's length; a plan record and a tree's bytes checked
   pub readsTree : List ℕ → List ℕ → Answer ℕ
   pub treeRead : List ℕ → List ℕ → List ℕ
-  -- a tree's bytes and a buffer: the fault, the text's length; the buffer afterwards
   pub writesTree : List ℕ → List ℕ → Answer ℕ
   pub treeWritten : List ℕ → List ℕ → List ℕ
-  -- a plan record and a tree's bytes: the fault
   pub checks : Plan → List ℕ → ℕ
-  -- a plan record and a buffer: the fault, the number of nodes; the buffer afterwards
+  -- a plan record searched: the number of nodes
   pub searches : Plan → List ℕ → Answer ℕ
   pub leaves : Plan → List ℕ → List ℕ
-  -- showing and reporting
+  -- showing and reporting; and a list of calls, as bytes, over a plan record, a tree's bytes and a history
   pub run : Run
-  -- a plan record, a tree's bytes, a history, a list of calls as bytes: how far the crew has come
   pub follows : Plan → List ℕ → History → List ℕ → Progress
-  -- a plan record and a mask that sets all letters: the fault, the schedule or "none"
+  -- a plan record and a mask that sets all letters: the schedule or "none"; whether a plan record passes the screen
   pub fixes : Plan → ℕ → Answer Fixed
-  -- a plan record: the fault, whether it passes the screen
   pub screens : Plan → Answer Bool
-  -- a refusal: its frame
+  -- a refusal's frame; what the program prints for its input
   pub refuses : Refusal → List ℕ
-  -- the program's input: what is printed
   pub prints : List ℕ → List ℕ

@@ -1,45 +1,79 @@
-//! The page: for each statement, in order, every definition that it needs and that no statement before it needed.
+//! The pages: for each statement, in order, every definition that it needs and that no statement before it needed.
 
 use super::definitions::{Definitions, Source};
 use super::reach::Reached;
-use super::Statement;
+use super::{Statement, CALLS, PAGE, PAGES};
 use std::collections::{BTreeMap, BTreeSet};
 
 const TOP: &str = "\
 # What must be believed
 
-To believe what the theorems say, read this page and nothing else: each statement with every definition that it needs, cut
-from the files, definitions before their users. A definition stands where it is needed first. What is not here is pinned by
-theorems, or used by proofs and inner contracts alone; the first lines of each file of `crates/*/specs` say which.
-`gate believed --write` makes this page, `tests/believed` fails where it is not as the files are.
+To believe what the theorems say, read this page and docs/BELIEVED-CALLS.md, and nothing else: each statement with every
+definition that it needs, cut from the files, definitions before their users. A definition stands where it is needed first.
+This page has what the planner is for: demand 2, the texts and the checker, and demand 3, the search and the crew's run.
+What is on neither page is pinned by theorems, or used by proofs and inner contracts alone; the first lines of each file of
+`crates/*/specs` say which. `gate believed --write` makes the pages, `tests/believed` fails where they are not as the files
+are.
 ";
 
-/// A file's part of the page.
+const TOP_OF_CALLS: &str = "\
+# What must be believed of each call
+
+The second page, behind docs/BELIEVED.md, whose definitions are not repeated: what each call answers and leaves in the bytes
+lent to it (demand 1), the verdict and the screen, how answers of the code are read of which only contracts speak, and the
+exported calls.
+";
+
+/// A file's part of a page.
 struct Part {
     path: String,
     lines: Vec<String>,
 }
 
-pub fn page(definitions: &Definitions, statements: &[Statement], reached: &[Reached]) -> String {
+impl Part {
+    /// The lines, and the file: behind the first comment where there is room, else in a line of its own.
+    fn text(&self) -> String {
+        let first = &self.lines[0];
+        if first.starts_with("-- ") && first.chars().count() + self.path.len() < 135 {
+            return format!("{first}  == {}\n{}", self.path, self.lines[1..].join("\n"));
+        }
+        format!("-- == {}\n{}", self.path, self.lines.join("\n"))
+    }
+}
+
+pub fn pages(definitions: &Definitions, statements: &[Statement], reached: &[Reached]) -> Vec<(&'static str, String)> {
     let mut shown = Reached::default();
+    let written = PAGES.iter().map(|file| {
+        let own: Vec<(&Statement, &Reached)> =
+            statements.iter().zip(reached).filter(|(statement, _)| statement.page == *file).collect();
+        (*file, page(definitions, file, &own, &mut shown))
+    });
+    written.collect()
+}
+
+/// One page; `shown` is what the pages before it have, and then what it has too.
+fn page(definitions: &Definitions, file: &str, statements: &[(&Statement, &Reached)], shown: &mut Reached) -> String {
     let mut rows = Vec::new();
     let mut text = String::new();
-    for (statement, reached) in statements.iter().zip(reached) {
-        let own = parts(definitions, reached, &shown);
+    let mut total = 0;
+    for (statement, reached) in statements {
+        let own = parts(definitions, reached, shown);
         let all = lines(&parts(definitions, reached, &Reached::default()));
         rows.push(format!("| {} | {} | {all} |", statement.title, lines(&own)));
-        let own: Vec<String> = own.iter().map(|p| format!("-- == {}\n{}", p.path, p.lines.join("\n"))).collect();
-        text += &format!("\n## {}\n\n```\n{}\n```\n", statement.title, own.join("\n\n"));
+        total += lines(&own);
+        let own: Vec<String> = own.iter().map(Part::text).collect();
+        text += &format!("\n## {}\n\n```\n{}\n```\n", statement.title, own.join("\n"));
         shown.items.extend(&reached.items);
         shown.types.extend(reached.types.clone());
         shown.library.extend(reached.library.clone());
     }
-    let total = lines(&parts(definitions, &shown, &Reached::default()));
     let table = format!(
         "| statement | lines | with what it needs from above |\n|---|---|---|\n{}\n| all | {total} | |\n",
         rows.join("\n")
     );
-    format!("{TOP}\n{table}{text}{}", library(&shown.library))
+    let top = if file == PAGE { TOP } else { TOP_OF_CALLS };
+    let library = if file == CALLS { library(&shown.library) } else { String::new() };
+    format!("{top}\n{table}{text}{library}")
 }
 
 fn lines(parts: &[Part]) -> usize {
@@ -68,9 +102,21 @@ fn types(krate: &str, reached: &Reached, shown: &Reached) -> Vec<Part> {
     new.sort_by_key(|t| (t.file.clone(), t.at));
     let mut files: BTreeMap<String, Vec<String>> = BTreeMap::new();
     for t in new {
-        files.entry(format!("{krate}/{}", t.file)).or_default().extend(t.lines.clone());
+        files.entry(format!("{krate}/{}", t.file)).or_default().extend(in_one_line(&t.lines));
     }
     files.into_iter().map(|(path, lines)| Part { path, lines }).collect()
+}
+
+/// A type of the code: its comment, and its fields or cases in one line where that is short enough.
+fn in_one_line(lines: &[String]) -> Vec<String> {
+    let is_comment = |l: &&String| l.trim_start().starts_with("//");
+    let code: Vec<&str> = lines.iter().filter(|l| !is_comment(l)).map(|l| l.trim()).collect();
+    let joined = code.join(" ").replace(", }", " }");
+    let inner = lines.iter().skip_while(is_comment).any(|l| is_comment(&l));
+    if inner || joined.len() > 140 {
+        return lines.to_vec();
+    }
+    lines.iter().take_while(is_comment).cloned().chain([joined]).collect()
 }
 
 /// These declarations of a file, with the heads of their modules and sections.
