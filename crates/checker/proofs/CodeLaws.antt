@@ -27,7 +27,8 @@ use Rattle.plan.proofs.RefusalLaws.{some-number}
 use Rattle.plan.proofs.OutcomeLaws.{submasks-are-outcomes}
 use Rattle.judge.specs.Judge.{planFault}
 use Rattle.tree.specs.declared.Node.{Node}
-use Rattle.tree.specs.Nodes.{legalLength, nodeCount, nodeAt}
+use Rattle.tree.specs.Nodes.{legalLength, nodeCount}
+use Rattle.tree.specs.Parts.{nodeAt}
 use Rattle.tree.specs.Parts.{fromNode, moveOf}
 use Rattle.game.specs.declared.Position.{Position}
 use Rattle.game.specs.Position.{stateOf, Proper, isLegal}

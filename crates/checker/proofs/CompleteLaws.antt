@@ -23,8 +23,9 @@ use Rattle.network.proofs.FirstLaws.{is-not-over}
 use Rattle.plan.specs.declared.Plan.{Plan}
 use Rattle.plan.specs.Plan.{networkOf}
 use Rattle.plan.specs.WellFormed.{WellFormed}
-use Rattle.tree.specs.Nodes.{nodeBytes}
-use Rattle.tree.specs.Trees.{nodeOf, treeBytes}
+use Rattle.tree.specs.Parts.{nodeBytes}
+use Rattle.tree.specs.Trees.{treeBytes}
+use Rattle.tree.specs.Parts.{nodeOf}
 use Rattle.tree.proofs.TreeLaws.{tree-length, node-bytes-front}
 use Rattle.game.proofs.LegalLaws.{legal-exactly}
 use Rattle.checker.specs.declared.Checked.{Checked}

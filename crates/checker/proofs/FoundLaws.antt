@@ -27,8 +27,9 @@ use Rattle.network.proofs.SearchLaws.{over-is}
 use Rattle.plan.specs.declared.Plan.{Plan}
 use Rattle.plan.specs.Plan.{networkOf}
 use Rattle.plan.specs.WellFormed.{WellFormed}
-use Rattle.tree.specs.Nodes.{nodeBytes, nodeAt}
-use Rattle.tree.specs.Trees.{nodeOf, treeBytes}
+use Rattle.tree.specs.Parts.{nodeBytes, nodeAt}
+use Rattle.tree.specs.Trees.{treeBytes}
+use Rattle.tree.specs.Parts.{nodeOf}
 use Rattle.tree.proofs.NodeLaws.{front-node}
 use Rattle.tree.proofs.TreeLaws.{tree-length, done-bytes, node-bytes-front}
 use Rattle.game.proofs.LegalLaws.{legal-exactly}

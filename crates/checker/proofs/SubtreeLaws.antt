@@ -17,7 +17,7 @@ use Rattle.network.proofs.GameLaws.{Inside, after-inside, fewer-left}
 use Rattle.plan.specs.declared.Plan.{Plan}
 use Rattle.plan.specs.Plan.{networkOf}
 use Rattle.plan.specs.WellFormed.{WellFormed}
-use Rattle.tree.specs.Nodes.{nodeAt}
+use Rattle.tree.specs.Parts.{nodeAt}
 use Rattle.tree.specs.Parts.{moveOf}
 use Rattle.game.specs.Position.{isLegal}
 use Rattle.game.proofs.LegalLaws.{legal-exactly}

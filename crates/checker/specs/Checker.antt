@@ -14,7 +14,8 @@ use Rattle.plan.specs.Refusal.{refusalNumber}
 use Rattle.plan.specs.Faults.{unless, first}
 use Rattle.plan.specs.Plan.{networkOf}
 use Rattle.judge.specs.Judge.{planFault}
-use Rattle.tree.specs.Nodes.{legalLength, nodeCount, nodeAt}
+use Rattle.tree.specs.Nodes.{legalLength, nodeCount}
+use Rattle.tree.specs.Parts.{nodeAt}
 use Rattle.tree.specs.Parts.{hasNode, fromNode, moveOf}
 use Rattle.game.specs.Position.{isLegal}
 use Rattle.checker.specs.declared.Checked.{Checked}

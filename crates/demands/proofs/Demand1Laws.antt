@@ -25,7 +25,7 @@ use Rattle.judge.proofs.JudgeTheorems.{fine-exactly}
 use Rattle.judge.proofs.WellFormedLaws.{two-to-four}
 use Rattle.frame.specs.Texts.{roomFault}
 use Rattle.frame.proofs.WritingLaws.{writes}
-use Rattle.tree.specs.Nodes.{nodeAt}
+use Rattle.tree.specs.Parts.{nodeAt}
 use Rattle.tree.specs.Parts.{fromNode, moveOf}
 use Rattle.run.specs.Run.{nodesBefore, toldHere, toldFrom, unlessFault, reportFault}
 use Rattle.run.specs.Told.{Told, instruct, complete, refuse, mayReport}

@@ -1,5 +1,5 @@
--- Definitions: the conditions that points disclose, as a mask of the six letters that a plan record has room for. To be believed, for
--- demand 1, 3.
+-- Definitions: the conditions that points disclose, as a mask of the six letters that a plan record has room for. Not to be believed: only
+-- theorems and inner contracts use it.
 use Prim.Native.Nat.{ℕ}
 use Rattle.network.specs.Mask.{mask}
 use Rattle.network.specs.Network.{conditionAt}

@@ -21,7 +21,8 @@ use Rattle.frame.proofs.FrameLaws.{whole-exactly}
 use Rattle.frame.proofs.RunLaws.{then-refused, frames-refused, frames-end, at-end-extra}
 use Rattle.plan_text.specs.PlanText.{headText, letterText, constraintText}
 use Rattle.plan_text.specs.ReadPlan.{readHead, readLetter, readConstraint, readConstraints, readLetters, readPlan}
-use Rattle.plan_text.specs.FirstFault.{FineLetter, FineFront, frontText, HeadBytes, LetterBytes, ConstraintBytes, FirstFault, in-head-frame, in-head-values, in-letter-frame, in-letter-values, in-constraint-frame, in-constraint-values, extra}
+use Rattle.plan_text.specs.FirstFault.{FineLetter, FineFront, HeadBytes, LetterBytes, ConstraintBytes, FirstFault, in-head-frame, in-head-values, in-letter-frame, in-letter-values, in-constraint-frame, in-constraint-values, extra}
+use Rattle.plan_text.specs.PlanText.{frontText}
 use Rattle.plan_text.proofs.FilledLaws.{front-same}
 use Rattle.plan_text.proofs.EntryLaws.{blank, head-alike, letter-earlier, constraint-over}
 use Rattle.plan_text.proofs.EntryReadLaws.{head-broken, head-bad, letter-broken, letter-bad, constraint-broken, constraint-bad, head-back, letter-back, constraint-back}

@@ -12,7 +12,8 @@ use Rattle.plan.specs.Plan.{zeroConstraint, letterAt, constraintAt, listed}
 use Rattle.plan.specs.WellFormed.{WellFormed}
 use Rattle.judge.specs.Judge.{headFine, takenBefore, letterFine, letterEntry, lettersFine, boundFine, constraintFine, constraintEntry, constraintsFine, planFault}
 use Rattle.judge.proofs.WellFormedLaws.{fine-exactly}
-use Rattle.plan_text.specs.PlanText.{headText, letterText, constraintText, lettersText, constraintsText, planText}
+use Rattle.plan_text.specs.PlanText.{headText, letterText, constraintText, planText}
+use Rattle.plan_text.specs.WritePlan.{lettersText, constraintsText}
 
 -- 11 characters of the head, 9 of each letter, 15 of each constraint
 pub plan-length : (p : Plan) → length (planText p) ≡ 11 + 9 * p .letters + 15 * p .constraints

@@ -26,9 +26,11 @@ use Rattle.frame.specs.ReadFrame.{frameLength, valueAt, whole}
 use Rattle.frame.specs.Texts.{atEnd}
 use Rattle.frame.proofs.FrameLaws.{whole-exactly}
 use Rattle.frame.proofs.RunLaws.{frame-read-is, at-end}
-use Rattle.plan_text.specs.PlanText.{headText, letterText, constraintText, lettersText, planText}
+use Rattle.plan_text.specs.PlanText.{headText, letterText, constraintText, planText}
+use Rattle.plan_text.specs.WritePlan.{lettersText}
 use Rattle.plan_text.specs.ReadPlan.{headIn, letterIn, withLetter, readLetter, constraintIn, withConstraint, readConstraint, readConstraints, readLetters, readPlan}
-use Rattle.plan_text.specs.FirstFault.{FineLetter, FineFront, frontText, FirstFault, in-head-frame, in-head-values, in-letter-frame, in-letter-values, in-constraint-frame, in-constraint-values, extra}
+use Rattle.plan_text.specs.FirstFault.{FineLetter, FineFront, FirstFault, in-head-frame, in-head-values, in-letter-frame, in-letter-values, in-constraint-frame, in-constraint-values, extra}
+use Rattle.plan_text.specs.PlanText.{frontText}
 use Rattle.plan_text.proofs.FilledLaws.{UnusedFrom, Filled, fill-stops}
 use Rattle.plan_text.proofs.EntryLaws.{withLetters, withConstraints, blank, head-alike, letter-exactly, letter-earlier, constraint-over, well-formed-of}
 use Rattle.plan_text.proofs.EntryReadLaws.{head-read, head-said, head-in-bytes, letter-read, letter-said, letter-in-bytes, constraint-read, constraint-said, constraint-in-bytes}

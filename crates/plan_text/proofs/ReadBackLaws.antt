@@ -21,7 +21,8 @@ use Rattle.frame.proofs.FrameLaws.{bytes}
 use Rattle.frame.proofs.RunLaws.{frames-end, at-end}
 use Rattle.plan_text.specs.PlanText.{headText, letterText, constraintText, planText}
 use Rattle.plan_text.specs.ReadPlan.{headIn, withLetter, readLetter, withConstraint, readConstraint, readConstraints, readLetters, readPlan}
-use Rattle.plan_text.specs.FirstFault.{FineLetter, FineFront, frontText, HeadBytes, LetterBytes, ConstraintBytes}
+use Rattle.plan_text.specs.FirstFault.{FineLetter, FineFront, HeadBytes, LetterBytes, ConstraintBytes}
+use Rattle.plan_text.specs.PlanText.{frontText}
 use Rattle.plan_text.proofs.FilledLaws.{front, front-all, fill-front}
 use Rattle.plan_text.proofs.EntryLaws.{withLetters, withConstraints, blank, head-alike, letter-earlier, constraint-over, unused-past, letters-only, front-of}
 use Rattle.plan_text.proofs.EntryReadLaws.{head-read, letter-read, constraint-read, head-back, letter-back, constraint-back}

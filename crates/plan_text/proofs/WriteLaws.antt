@@ -16,7 +16,8 @@ use Rattle.frame.specs.declared.Written.{Written}
 use Rattle.frame.specs.declared.Written.the-variants as written
 use Rattle.frame.specs.Written.{writtenAnswer}
 use Rattle.frame.proofs.WritingLaws.{sets-append, write-refused, write-short, write-done}
-use Rattle.plan_text.specs.PlanText.{headText, letterText, constraintText, lettersText, constraintsText, planText}
+use Rattle.plan_text.specs.PlanText.{headText, letterText, constraintText, planText}
+use Rattle.plan_text.specs.WritePlan.{lettersText, constraintsText}
 use Rattle.plan_text.specs.WritePlan.{writePlan, writePlanLeaves}
 use Rattle.plan_text.proofs.LengthLaws.{plan-length}
 

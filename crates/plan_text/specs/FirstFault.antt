@@ -3,7 +3,6 @@
 use mathlib.Core.Path.{_≡_}
 use mathlib.Core.List.{List, [], _∷_, _++_}
 use Prim.Native.Nat.{ℕ, _/_, _%_, _≤_, _<_}
-use Rattle.network.specs.Mask.{joinBelow}
 use Rattle.plan.specs.declared.Letter.{Letter}
 use Rattle.plan.specs.declared.Constraint.{Constraint}
 use Rattle.plan.specs.declared.Plan.{Plan}
@@ -12,7 +11,7 @@ use Rattle.plan.specs.Refusal.{refusalNumber}
 use Rattle.plan.specs.Plan.{letterAt, constraintAt}
 use Rattle.plan.specs.WellFormed.{FineHead, FineConstraint}
 use Rattle.frame.specs.Frame.{Bytes, Begins}
-use Rattle.plan_text.specs.PlanText.{headText, letterText, constraintText}
+use Rattle.plan_text.specs.PlanText.{headText, letterText, constraintText, frontText}
 
 -- ---- the frames before it
 
@@ -27,11 +26,6 @@ pub record FineFront (p : Plan) (i j : ℕ) : Type 0 where
   pub head : FineHead p
   pub letter : (k : ℕ) → k < i → FineLetter p k (letterAt p k)
   pub constraint : (k : ℕ) → k < j → FineConstraint p (constraintAt p k)
-
--- their frames
-abbrev pub frontText : Plan → ℕ → ℕ → List ℕ
-frontText p i j =
-    headText p ++ joinBelow i (λ k. letterText k (letterAt p k)) ++ joinBelow j (λ k. constraintText (constraintAt p k))
 
 -- ---- the first faulty frame
 

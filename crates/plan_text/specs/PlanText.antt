@@ -20,12 +20,11 @@ letterText i l = frameText (2 ∷ i ∷ l .point ∷ l .kind ∷ [])
 abbrev pub constraintText : Constraint → List ℕ
 constraintText c = frameText (3 ∷ c .from ∷ c .to ∷ c .bound / 256 ∷ c .bound % 256 ∷ c .need ∷ c .truth ∷ [])
 
-abbrev pub lettersText : Plan → List ℕ
-lettersText p = joinBelow (p .letters) (λ i. letterText i (letterAt p i))
-
-abbrev pub constraintsText : Plan → List ℕ
-constraintsText p = joinBelow (p .constraints) (λ j. constraintText (constraintAt p j))
+-- the head, the first i letters, the first j constraints
+abbrev pub frontText : Plan → ℕ → ℕ → List ℕ
+frontText p i j =
+    headText p ++ joinBelow i (λ k. letterText k (letterAt p k)) ++ joinBelow j (λ k. constraintText (constraintAt p k))
 
 -- one 01, then its 02s, then its 03s
 unfoldable pub planText : Plan → List ℕ
-planText p = headText p ++ lettersText p ++ constraintsText p
+planText p = frontText p (p .letters) (p .constraints)

@@ -12,7 +12,8 @@ ghost use Prim.Native.Nat.{_+_, _*_, _≤_};
 ghost use lib.ListN.{length};
 ghost use lib.Seq.{sets};
 ghost use Rattle.frame.specs.Written.{writtenAnswer};
-ghost use Rattle.plan_text.specs.PlanText.{headText, letterText, constraintText, lettersText, constraintsText};
+ghost use Rattle.plan_text.specs.PlanText.{headText, letterText, constraintText};
+ghost use Rattle.plan_text.specs.WritePlan.{lettersText, constraintsText};
 ghost use Rattle.plan_text.specs.WritePlan.{writePlan, writePlanLeaves};
 
 fn put_head(out: &mut [u8], p: Plan)

@@ -21,7 +21,7 @@ use Rattle.plan.proofs.OutcomeLaws.{submasks-are-outcomes}
 use Rattle.plan.proofs.SliceLaws as slice
 use Rattle.plan.proofs.SliceLaws.{rest-is}
 use Rattle.tree.specs.declared.Node.{Node}
-use Rattle.tree.specs.Nodes.{nodeAt}
+use Rattle.tree.specs.Parts.{nodeAt}
 use Rattle.tree.specs.Parts.{fromNode, moveOf}
 use Rattle.game.specs.declared.Position.{Position}
 use Rattle.game.specs.Position.{stateOf, Proper, isLegal, startPosition, positionAfter}

@@ -27,9 +27,10 @@ use Rattle.plan.specs.WellFormed.{WellFormed}
 use Rattle.plan.proofs.AnswerLaws.{unless-is, first-none}
 use Rattle.judge.specs.Judge.{planFault}
 use Rattle.judge.proofs.WellFormedLaws.{fine-exactly}
-use Rattle.tree.specs.Nodes.{nodeBytes}
+use Rattle.tree.specs.Parts.{nodeBytes}
 use Rattle.tree.specs.Parts.{fromNode}
-use Rattle.tree.specs.Trees.{nodeOf, treeBytes, Describes}
+use Rattle.tree.specs.Trees.{treeBytes, Describes}
+use Rattle.tree.specs.Parts.{nodeOf}
 use Rattle.tree.proofs.TreeLaws.{subtreesBytes, node-bytes-front, tree-length}
 use Rattle.checker.specs.declared.Checked.{Checked}
 use Rattle.checker.specs.declared.Checked.the-variants as checked

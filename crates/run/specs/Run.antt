@@ -12,7 +12,7 @@ use Rattle.plan.specs.Refusal.{refusalNumber}
 use Rattle.plan.specs.Answer.{Answer}
 use Rattle.plan.specs.Faults.{unless, first}
 use Rattle.plan.specs.Plan.{networkOf}
-use Rattle.tree.specs.Nodes.{nodeAt}
+use Rattle.tree.specs.Parts.{nodeAt}
 use Rattle.tree.specs.Parts.{fromNode, moveOf}
 use Rattle.checker.specs.declared.Checked.{Checked}
 use Rattle.checker.specs.declared.Checked.the-variants as checked

@@ -3,14 +3,16 @@
 use mathlib.Core.Bool.{Bool, cond}
 use mathlib.Core.List.{List, [], _∷_}
 use Prim.Native.Nat.{ℕ}
-use Rattle.network.specs.Game.{Move}
+use lib.Bits.{bitAnd}
+use lib.Dec.{eqb}
+use Rattle.network.specs.Mask.{mask}
+use Rattle.network.specs.Game.{Move, hears}
 use Rattle.network.specs.Tree.{Tree, done, node}
-use Rattle.masks.specs.Masks.{inside}
 use Rattle.plan.specs.declared.Plan.{Plan}
 use Rattle.plan.specs.declared.Refusal.the-variants as refusal
 use Rattle.plan.specs.Refusal.{refusalNumber, judgedNumber}
 use Rattle.plan.specs.Answer.{Answer}
-use Rattle.plan.specs.Letters.{heardBy}
+use Rattle.plan.specs.Plan.{networkOf}
 use Rattle.run.specs.declared.Instruction.{Instruction}
 use Rattle.run.specs.declared.History.{History}
 use Rattle.run.specs.declared.Shown.{Shown}
@@ -23,9 +25,9 @@ pub data Told : Type 0 where
   complete : Told
   refuse : ℕ → Told
 
--- a report at the instruction m: a mask inside the conditions that its points disclose
+-- a report at the instruction m: a mask whose bits are all among the conditions that its points disclose
 abbrev pub mayReport : Plan → Move → ℕ → Bool
-mayReport p m o = inside o (heardBy p (m .points))
+mayReport p m o = eqb (bitAnd o (mask 6 (hears (networkOf p) m))) o
 
 -- The instruction at a history is the node reached from the root by its masks, or done when the last node of a path has been reported. At
 -- each mask in turn, 9 where the run was done before it, then 8 where it names what it may not.

@@ -14,7 +14,7 @@ ghost use lib.ListN.{length};
 ghost use Rattle.network.specs.Game.{start};
 ghost use Rattle.plan.specs.Plan.{networkOf};
 ghost use Rattle.plan.specs.WellFormed.{WellFormed};
-ghost use Rattle.tree.specs.Nodes.{nodeAt};
+ghost use Rattle.tree.specs.Parts.{nodeAt};
 ghost use Rattle.tree.specs.Parts.{moveOf};
 ghost use Rattle.game.specs.Position.{stateOf, Proper, isLegal};
 ghost use Rattle.checker.specs.Checker.{checkFault};

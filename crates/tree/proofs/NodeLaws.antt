@@ -11,7 +11,8 @@ use Rattle.network.specs.Mask.{joinBelow}
 use Rattle.network.proofs.Booleans.{and-left, and-right, and-make, leb-yes, leb-is, eqb-yes, eqb-is}
 use Rattle.network.proofs.JoinLaws.{join-first, join-length, join-cong, drop-to-piece}
 use Rattle.tree.specs.declared.Node.{Node}
-use Rattle.tree.specs.Nodes.{mostBytes, legalLength, nodeBytes, nodeAt}
+use Rattle.tree.specs.Nodes.{mostBytes, legalLength}
+use Rattle.tree.specs.Parts.{nodeBytes, nodeAt}
 use Rattle.tree.specs.Parts.{mostNodes}
 
 abbrev pub nodesBytes : ℕ → (ℕ → Node) → List ℕ

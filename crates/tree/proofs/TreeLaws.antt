@@ -13,15 +13,16 @@ use Rattle.network.specs.Sizes.{nodes}
 use Rattle.network.specs.Walks.{SameTree}
 use Rattle.network.proofs.JoinLaws.{join-cong, join-lengths, join-parse}
 use Rattle.network.proofs.GameLaws.{not-over, outcome-at-is, outcome-numbered}
-use Rattle.tree.specs.Nodes.{nodeBytes}
-use Rattle.tree.specs.Trees.{nodeOf, movesBytes, treeBytes}
+use Rattle.tree.specs.Parts.{nodeBytes}
+use Rattle.tree.specs.Trees.{movesBytes, treeBytes}
+use Rattle.tree.specs.Parts.{nodeOf}
 
 -- ---- moves one after the other
 
 moves-append : (ms ks : List Move) → movesBytes (ms ++ ks) ≡ movesBytes ms ++ movesBytes ks
 unfolding movesBytes
 moves-append [] ks = refl
-moves-append (m ∷ ms) ks = ap (λ (bs : List ℕ). nodeBytes (nodeOf m) ++ bs) (moves-append ms ks)
+moves-append (m ∷ ms) ks = rw (moves-append ms ks)
 
 moves-join : (n : ℕ) (f : ℕ → List Move) → movesBytes (joinBelow n f) ≡ joinBelow n (λ k. movesBytes (f k))
 unfolding movesBytes joinBelow

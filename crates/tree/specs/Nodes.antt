@@ -1,11 +1,9 @@
--- Definitions: a tree in memory, three bytes to a node, and a lent buffer that holds one. Nothing else but Parts.antt knows where a node's
--- bytes stand. To be believed, for demand 1, 2, 3.
+-- Definitions: a tree in memory, three bytes to a node, and a lent buffer that holds one. To be believed, for demand 1, 2, 3.
 use mathlib.Core.Bool.{Bool, _&&_}
-use mathlib.Core.List.{List, [], _∷_, _++_}
-use Prim.Native.Nat.{ℕ, _+_, _*_, _/_, _%_, _-_}
+use mathlib.Core.List.{List, _++_}
+use Prim.Native.Nat.{ℕ, _*_, _/_, _%_, _-_}
 use lib.Dec.{leb, eqb}
-use lib.ListN.{length, getD, take, drop, replicate}
-use Rattle.tree.specs.declared.Node.{Node}
+use lib.ListN.{length, take, drop, replicate}
 
 -- the bytes of the most nodes that a tree has, 191
 abbrev pub mostBytes : ℕ
@@ -18,14 +16,6 @@ legalLength n = eqb (n % 3) 0 && leb 3 n && leb n mostBytes
 -- how many nodes the bytes have
 abbrev pub nodeCount : List ℕ → ℕ
 nodeCount bs = length bs / 3
-
--- slot, points, choices
-abbrev pub nodeBytes : Node → List ℕ
-nodeBytes v = v .slot ∷ v .points ∷ v .choices ∷ []
-
--- node k of the bytes; zeros past their end
-abbrev pub nodeAt : List ℕ → ℕ → Node
-nodeAt bs k = record { slot = getD bs (3 * k) 0; points = getD bs (3 * k + 1) 0; choices = getD bs (3 * k + 2) 0 }
 
 -- the bytes of the first k nodes
 abbrev pub firstNodes : List ℕ → ℕ → List ℕ

@@ -1,21 +1,15 @@
 -- Definitions: the bytes of a strategy tree, and which bytes describe one. To be believed, for demand 1, 2, 3.
 use mathlib.Core.Path.{_≡_}
-use mathlib.Core.List.{List, [], _∷_, _++_}
+use mathlib.Core.List.{List, [], _∷_}
 use Prim.Native.Nat.{ℕ}
 use Rattle.network.specs.Network.{Network}
 use Rattle.network.specs.Game.{Move}
 use Rattle.network.specs.Tree.{Tree, Shaped, preorder}
-use Rattle.tree.specs.declared.Node.{Node}
-use Rattle.tree.specs.Nodes.{nodeBytes}
 
--- a move of the game is a node
-abbrev pub nodeOf : Move → Node
-nodeOf m = record { slot = m .slot; points = m .points; choices = m .choices }
-
--- the bytes of moves, one after the other
+-- the bytes of moves, one after the other, three each: slot, points, choices
 unfoldable pub movesBytes : List Move → List ℕ
 movesBytes [] = []
-movesBytes (m ∷ ms) = nodeBytes (nodeOf m) ++ movesBytes ms
+movesBytes (m ∷ ms) = m .slot ∷ m .points ∷ m .choices ∷ movesBytes ms
 
 -- the bytes of a tree: its nodes, parent first, then each child's whole subtree in turn
 abbrev pub treeBytes : Network → Tree → List ℕ

@@ -3,7 +3,8 @@ use plan::bytes;
 ghost use mathlib.Core.Path.{_≡_};
 ghost use Prim.Native.Nat.{_*_};
 ghost use Rattle.plan.specs.Faults.{putAt};
-ghost use Rattle.tree.specs.Nodes.{legalLength, nodeCount, nodeBytes, nodeAt};
+ghost use Rattle.tree.specs.Nodes.{legalLength, nodeCount};
+ghost use Rattle.tree.specs.Parts.{nodeBytes, nodeAt};
 
 // A node (document 01's term), what is done in a slot: the points performed and the choices made, as masks.
 pub struct Node {

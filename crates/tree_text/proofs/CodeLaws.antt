@@ -29,10 +29,12 @@ use Rattle.plan.proofs.SliceLaws.{rest-is}
 use Rattle.frame.proofs.ReadingLaws.{frames-on}
 use Rattle.frame.proofs.WritingLaws.{sets-append, join-next, write-refused, write-short, write-done}
 use Rattle.tree.specs.declared.Node.{Node}
-use Rattle.tree.specs.Nodes.{nodeCount, mostBytes, legalLength, nodeBytes, nodeAt}
+use Rattle.tree.specs.Nodes.{nodeCount, mostBytes, legalLength}
+use Rattle.tree.specs.Parts.{nodeBytes, nodeAt}
 use Rattle.tree_text.specs.declared.TreeRead.{TreeRead}
 use Rattle.tree_text.specs.declared.TreeRead.the-variants as tree-read
-use Rattle.tree_text.specs.TreeText.{treeHeadText, nodeText, treeText}
+use Rattle.tree_text.specs.TreeText.{treeHeadText, treeText}
+use Rattle.tree_text.specs.WriteTree.{nodeText}
 use Rattle.tree_text.specs.WriteTree.{writeTree, writeTreeLeaves}
 use Rattle.tree_text.specs.TreeRead.{treeReadAnswer}
 use Rattle.tree_text.specs.ReadTree.{readNode, readNodes, nodeIn, bytesIn, readTree, readTreeLeaves}

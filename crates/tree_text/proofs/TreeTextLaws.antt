@@ -26,12 +26,14 @@ use Rattle.frame.proofs.FrameLaws.{bytes, bytes-append, value-back, whole-back,
 use Rattle.plan.proofs.RefusalLaws.{no-refusal, refusal-one-number}
 use Rattle.plan.proofs.AnswerLaws.{unless-of}
 use Rattle.frame.proofs.RunLaws.{frame-fault-of, then-each, run-each, frame-read, frame-read-is, at-end, at-end-is, then-goes, then-fine, run-back, run-invariant}
-use Rattle.tree.specs.Nodes.{nodeCount, mostBytes, legalLength, nodeBytes, nodeAt}
+use Rattle.tree.specs.Nodes.{nodeCount, mostBytes, legalLength}
+use Rattle.tree.specs.Parts.{nodeBytes, nodeAt}
 use Rattle.tree.specs.Parts.{mostNodes}
 use Rattle.tree.proofs.NodeLaws.{nodes-length, node-of-bytes, bytes-of-nodes, legal-is, legal-make}
 use Rattle.tree_text.specs.declared.TreeRead.{TreeRead}
 use Rattle.tree_text.specs.declared.TreeRead.the-variants as tree-read
-use Rattle.tree_text.specs.TreeText.{treeHeadText, nodeText, treeText}
+use Rattle.tree_text.specs.TreeText.{treeHeadText, treeText}
+use Rattle.tree_text.specs.WriteTree.{nodeText}
 use Rattle.tree_text.specs.TreeRead.{treeReadAnswer}
 use Rattle.tree_text.specs.WriteTree.{writeTree}
 use Rattle.tree_text.specs.ReadTree.{readTree, readTreeHead, readNode, readBehind, readNodes, nodeIn, bytesIn}

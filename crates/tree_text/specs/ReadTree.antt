@@ -12,7 +12,8 @@ use Rattle.plan.specs.Faults.{unless, first, answered, andThen, filled}
 use Rattle.frame.specs.ReadFrame.{frameLength, valueAt, whole}
 use Rattle.frame.specs.Texts.{frameFault, framesFrom, atEnd}
 use Rattle.tree.specs.declared.Node.{Node}
-use Rattle.tree.specs.Nodes.{mostBytes, nodeBytes}
+use Rattle.tree.specs.Nodes.{mostBytes}
+use Rattle.tree.specs.Parts.{nodeBytes}
 use Rattle.tree.specs.Parts.{mostNodes}
 
 -- a number of nodes from 1 to 191

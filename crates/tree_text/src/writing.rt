@@ -9,8 +9,9 @@ ghost use lib.ListN.{length};
 ghost use lib.Seq.{sets};
 ghost use Rattle.network.specs.Mask.{joinBelow};
 ghost use Rattle.frame.specs.Written.{writtenAnswer};
-ghost use Rattle.tree.specs.Nodes.{nodeAt};
-ghost use Rattle.tree_text.specs.TreeText.{treeHeadText, nodeText};
+ghost use Rattle.tree.specs.Parts.{nodeAt};
+ghost use Rattle.tree_text.specs.TreeText.{treeHeadText};
+ghost use Rattle.tree_text.specs.WriteTree.{nodeText};
 ghost use Rattle.tree_text.specs.WriteTree.{writeTree, writeTreeLeaves};
 
 fn put_head(out: &mut [u8], n: u8)

@@ -11,7 +11,7 @@ use Rattle.network.proofs.Booleans.{leb-yes}
 use Rattle.plan.specs.Faults.{putAt}
 use Rattle.plan.proofs.SliceLaws.{rest, rest-is}
 use Rattle.tree.specs.declared.Node.{Node}
-use Rattle.tree.specs.Nodes.{nodeBytes}
+use Rattle.tree.specs.Parts.{nodeBytes}
 use Rattle.turns.specs.Turns.{Leaves}
 
 -- nothing is written yet

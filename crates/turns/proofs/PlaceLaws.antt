@@ -19,7 +19,7 @@ use Rattle.plan.proofs.SliceLaws.{rest, rest-is}
 use Rattle.plan.proofs.OutcomeLaws.{submasks-are-outcomes}
 use Rattle.plan.proofs.PlanTheorems.{is-network}
 use Rattle.tree.specs.declared.Node.{Node}
-use Rattle.tree.specs.Nodes.{nodeBytes}
+use Rattle.tree.specs.Parts.{nodeBytes}
 use Rattle.tree.specs.Parts.{moveOf}
 use Rattle.moves.specs.declared.Step.{Step}
 use Rattle.moves.specs.declared.Step.the-variants as step

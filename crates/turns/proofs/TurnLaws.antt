@@ -25,7 +25,7 @@ use Rattle.network.proofs.GameLaws.{Inside, after-inside, outcome-at-is, outcom
 use Rattle.network.proofs.FirstLaws.{before-cases}
 use Rattle.network.proofs.SizeLaws.{room-positive, room-same, room-step}
 use Rattle.tree.specs.declared.Node.{Node}
-use Rattle.tree.specs.Nodes.{nodeBytes}
+use Rattle.tree.specs.Parts.{nodeBytes}
 use Rattle.tree.specs.Trees.{treeBytes}
 use Rattle.tree.specs.Parts.{moveOf}
 use Rattle.tree.proofs.TreeLaws.{tree-length, node-bytes, same-bytes, same-nodes}
