@@ -2,7 +2,7 @@
 use mathlib.Core.Path.{_≡_, refl, sym, ap, _∙_, subst}
 use mathlib.Core.Logic.{_↔_, inl, inr, ⊎-elim, by-cases}
 use mathlib.Core.Bool.{true, false}
-use mathlib.Core.List.{List, [], _∷_, _++_, append-nil}
+use mathlib.Core.List.{List, [], _∷_, append-nil}
 use Prim.Native.Nat.{ℕ, _*_, _^_, _≤_, _<_}
 use native.Mathlib.Omega.{arith}
 use lib.Dec.{leb, ltb, eqb}
@@ -24,10 +24,9 @@ use Rattle.plan.proofs.PlanTheorems.{is-network}
 use Rattle.plan.proofs.AnswerLaws.{unless-is, first-none, answered-zero}
 use Rattle.judge.specs.Judge.{planFault}
 use Rattle.judge.proofs.JudgeTheorems.{fine-exactly, head-refused-exactly, letters-refused-exactly, constraints-refused-exactly}
-use Rattle.frame.specs.Frame.{faultText}
 use Rattle.frame.specs.Texts.{roomFault}
 use Rattle.tree.specs.Nodes.{mostBytes, legalLength, firstNodes, overwritten}
-use Rattle.tree.specs.Trees.{treeBytes, Describes}
+use Rattle.tree.specs.Trees.{Describes}
 use Rattle.tree.proofs.NodeLaws.{legal-is}
 use Rattle.plan_text.specs.PlanText.{planText}
 use Rattle.plan_text.specs.WritePlan.{writePlan, writePlanLeaves}
@@ -44,7 +43,7 @@ use Rattle.checker.proofs.CheckerTheorems.{six-exactly, seven-exactly, yes-six-
 use Rattle.search.specs.Search.{searchFault, searchAnswer, searchLeaves}
 use Rattle.search.proofs.AnswerLaws.{by-fault, answered-so}
 use Rattle.search.proofs.SearchTheorems.{leaves-tree, front-is-tree, checker-yes, hopeless-leaves, refused-stays, past-stays}
-use Rattle.search.proofs.SearchTheorems.{fault-is, ten-exactly, only-bytes, eleven-exactly, fine-exactly as search-fine-exactly, refused-zero as search-refused-zero, first-moves}
+use Rattle.search.proofs.SearchTheorems.{fault-is, ten-exactly, eleven-exactly, fine-exactly as search-fine-exactly, refused-zero as search-refused-zero, first-moves}
 use Rattle.search.proofs.SearchTheorems.{plan-first as search-plan-first}
 use Rattle.run.specs.declared.History.{History}
 use Rattle.run.specs.Run.{showAnswer, reportFault, reportAnswer}
@@ -61,9 +60,9 @@ use Rattle.verdict.specs.Verdict.{verdictFault, verdictOf, leastSchedule, scree
 use Rattle.verdict.specs.Answers.{Fixed, none}
 use Rattle.verdict.proofs.AnswerLaws.{eight-answer, screen-plan-fault, fine-answer, mask-fault}
 use Rattle.answer_text.specs.AnswerText.{answerText}
-use Rattle.answer_text.proofs.AnswerTextTheorems.{Says, prints-tree, prints-hopeless, tree-legal, by-input}
+use Rattle.answer_text.proofs.AnswerTextTheorems.{by-input}
 use Rattle.demands.specs.ThisPlanner.{planner}
-use Rattle.demands.specs.EachCall.{Sized, OneOf, Fills, SaysTree, AnswersJudge, AnswersReadPlan, AnswersWritePlan, AnswersReadTree}
+use Rattle.demands.specs.EachCall.{OneOf, Fills, SaysTree, AnswersJudge, AnswersReadPlan, AnswersWritePlan, AnswersReadTree}
 use Rattle.demands.specs.EachCall.{AnswersWriteTree, AnswersCheck, AnswersSearch, AnswersShow, AnswersReport, AnswersVerdict, AnswersScreen, AnswersProgram}
 use Rattle.demands.specs.Demand1.{Demand1}
 use Rattle.demands.proofs.Demand1Laws.{one-of, one-of-more, one-between, first-one, unless-one, unless-exactly, unless-yes, long-enough}

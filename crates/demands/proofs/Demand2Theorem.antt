@@ -5,13 +5,11 @@ use mathlib.Core.Bool.{true}
 use mathlib.Core.List.{List, _++_}
 use Prim.Native.Nat.{ℕ, _*_, _≤_}
 use native.Mathlib.Omega.{arith}
-use lib.Dec.{leb}
 use lib.ListN.{length, take, drop, replicate}
 use lib.Seq.{take-at}
 use Rattle.network.specs.Tree.{strategyOf}
 use Rattle.network.proofs.Booleans.{leb-yes}
 use Rattle.plan.specs.declared.Plan.{Plan}
-use Rattle.plan.specs.declared.Refusal.the-variants as refusal
 use Rattle.plan.specs.Answer.{Answer, fine}
 use Rattle.plan.specs.Faults.{unless, first, answered, filled}
 use Rattle.plan.specs.Plan.{networkOf}

@@ -1,24 +1,17 @@
 -- Theorem: the verdict and the screen of this planner say what document 01 asks. Read the statement in specs/FixedOutcomes.antt; only the
 -- checker need believe the proof.
-use mathlib.Core.Path.{_≡_, refl, sym, ap, _∙_}
-use mathlib.Core.Logic.{_⊎_, inl, inr}
-use mathlib.Core.Bool.{Bool, true, false}
-use mathlib.Core.List.{List, [], _∷_}
+use mathlib.Core.Path.{_≡_, refl, sym}
+use mathlib.Core.List.{[], _∷_}
 use Prim.Native.Nat.{ℕ}
-use native.Mathlib.Omega.{arith}
 use lib.Dec.{eqb}
 use lib.ListN.{replicate}
 use Rattle.network.proofs.Booleans.{by-test, eqb-is, differs}
 use Rattle.plan.specs.declared.Plan.{Plan}
-use Rattle.plan.specs.declared.Refusal.{Refusal}
-use Rattle.plan.specs.declared.Refusal.the-variants as refusal
-use Rattle.plan.specs.Answer.{Answer}
-use Rattle.plan.specs.Refusal.{refusalNumber}
 use Rattle.verdict.specs.declared.Found.the-variants as found
 use Rattle.verdict.specs.declared.Verdict.{Verdict}
 use Rattle.verdict.specs.declared.screen.Screened.{Screened}
 use Rattle.verdict.specs.declared.screen.Screened.the-variants as screen
-use Rattle.verdict.specs.Answers.{Fixed, verdictAnswer, screenAnswer}
+use Rattle.verdict.specs.Answers.{verdictAnswer, screenAnswer}
 use Rattle.verdict.specs.Verdict.{leastSchedule, screened}
 use Rattle.verdict.proofs.VerdictTheorems.{says, one-verdict, passed-exactly, failed-exactly}
 use Rattle.demands.specs.ThisPlanner.{planner}

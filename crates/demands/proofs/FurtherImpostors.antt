@@ -13,8 +13,8 @@ use Rattle.network.specs.Fixed.{Setting, Schedulable}
 use Rattle.network.proofs.Booleans.{clash}
 use Rattle.network.proofs.MaskLaws.{bit-zero}
 use Rattle.plan.specs.declared.Plan.{Plan}
-use Rattle.plan.specs.Answer.{Answer, fine}
-use Rattle.plan.specs.Faults.{unless, first, answered, filled, andThen}
+use Rattle.plan.specs.Answer.{fine}
+use Rattle.plan.specs.Faults.{andThen}
 use Rattle.plan.specs.Plan.{networkOf}
 use Rattle.plan.specs.WellFormed.{WellFormed}
 use Rattle.plan.proofs.Cases.{one-point, k4}

@@ -15,7 +15,7 @@ use Rattle.network.specs.Strategy.{DynamicallyConsistent}
 use Rattle.network.specs.Game.{start, Move, hears}
 use Rattle.network.specs.Search.{firstTree}
 use Rattle.network.specs.Crew.{Step, timesPerformed, slotBySteps, valueBySteps, Some, Hears, HeardAlike, ToldAlike}
-use Rattle.network.proofs.Booleans.{by-test, clash, and-left, ltb-is}
+use Rattle.network.proofs.Booleans.{clash, and-left, ltb-is}
 use Rattle.plan.specs.declared.Plan.{Plan}
 use Rattle.plan.specs.declared.Refusal.{Refusal}
 use Rattle.plan.specs.declared.Refusal.the-variants as refusal

@@ -1,12 +1,11 @@
 -- Laws: calls that were made, with what they handed back, and lists of calls whose answers are functions: what holds of every list holds of
 -- every crew. Only the checker need believe this file.
 use mathlib.Core.Path.{_≡_, refl, sym, ap, _∙_, subst}
-use mathlib.Core.Logic.{_↔_}
 use mathlib.Core.List.{List, [], _∷_, _++_, map, append-assoc, append-nil}
 use Prim.Native.Nat.{ℕ, zero, suc}
 use native.Mathlib.Omega.{arith}
 use Rattle.network.specs.Game.{Move, Outcome}
-use Rattle.network.specs.Crew.{Step, HeardAlike, ToldAlike}
+use Rattle.network.specs.Crew.{Step}
 use Rattle.plan.specs.declared.Plan.{Plan}
 use Rattle.plan.specs.declared.Judged.{Judged}
 use Rattle.plan.specs.declared.Judged.the-variants as judged
@@ -15,12 +14,11 @@ use Rattle.plan.specs.Answer.{Answer}
 use Rattle.plan.specs.Plan.{networkOf}
 use Rattle.plan.proofs.RefusalLaws.{fine-is, no-refusal}
 use Rattle.run.specs.declared.History.{History}
-use Rattle.run.specs.declared.Instruction.{Instruction}
 use Rattle.run.specs.declared.Shown.{Shown}
 use Rattle.run.specs.declared.Shown.the-variants as shown
 use Rattle.run.specs.declared.Reported.{Reported}
-use Rattle.run.specs.History.{historyOf, emptyHistory, longer}
-use Rattle.run.specs.Told.{Told, instruct, complete, instructed, shownTold, reportedAnswer, instructionAt}
+use Rattle.run.specs.History.{historyOf, emptyHistory}
+use Rattle.run.specs.Told.{instruct, complete, instructed, shownTold, instructionAt}
 use Rattle.run.proofs.ToldLaws.{done-is-not, refused-is-not}
 use Rattle.following.specs.Calls.{Run, Call, showing, reporting, Progress, begun, stepsOf, afterCall, afterCalls}
 use Rattle.demands.specs.Crews.{ShownBy, ReportedBy, Made, showed, reported, Answered, acceptedBy, heldAfter, followedBy, stepsTaken, Crew, historyHeld, stepsFollowed, reportsMade, Done}

@@ -1,13 +1,11 @@
 -- Laws: what a planner answers is something that its calls can hand back, so that there are crews to every list of calls, and what holds of
 -- every crew holds of every list. Only the checker need believe this file.
 use mathlib.Core.Path.{_≡_, refl, sym, ap, _∙_, subst}
-use mathlib.Core.Logic.{_↔_, _⊎_, inl, inr, ⊎-elim}
+use mathlib.Core.Logic.{inl, inr}
 use mathlib.Core.List.{List, [], _∷_, _++_, map, map-append}
 use Prim.Native.Nat.{ℕ}
 use native.Mathlib.Omega.{arith}
-use lib.Dec.{eqb}
 use Rattle.network.specs.Crew.{Step}
-use Rattle.network.proofs.Booleans.{by-test, eqb-is, differs}
 use Rattle.plan.specs.declared.Plan.{Plan}
 use Rattle.plan.specs.declared.Refusal.{Refusal}
 use Rattle.plan.specs.declared.Refusal.the-variants as refusal
@@ -15,7 +13,6 @@ use Rattle.plan.specs.declared.Judged.{Judged}
 use Rattle.plan.specs.declared.Judged.the-variants as judged
 use Rattle.plan.specs.Refusal.{refusalNumber, judgedNumber}
 use Rattle.plan.specs.Answer.{Answer}
-use Rattle.plan.specs.Plan.{networkOf}
 use Rattle.plan.proofs.RefusalLaws.{fine-is}
 use Rattle.search.specs.declared.Searched.{Searched}
 use Rattle.search.specs.declared.Searched.the-variants as searched

@@ -1,24 +1,19 @@
 -- Laws: numbers and bytes that exported calls hand back, read again. Only the checker need believe this file.
 use mathlib.Core.Path.{_≡_, refl, sym, ap, _∙_}
-use mathlib.Core.Logic.{_⊎_, inl, inr}
+use mathlib.Core.Logic.{inl, inr}
 use mathlib.Core.Bool.{Bool, cond}
-use mathlib.Core.List.{List, [], _∷_, _++_}
+use mathlib.Core.List.{List, _∷_, _++_}
 use Prim.Native.Nat.{ℕ, _+_, _-_, _≤_, _<_}
 use native.Mathlib.Omega.{arith}
-use lib.Dec.{ltb, eqb}
-use lib.ListN.{length, drop}
-use Rattle.network.specs.Game.{Move}
+use lib.Dec.{eqb}
 use Rattle.network.proofs.Booleans.{by-test, eqb-is, eqb-no, differs, ltb-yes, ltb-no}
-use Rattle.plan.specs.declared.Refusal.the-variants as refusal
 use Rattle.plan.specs.Answer.{Answer, fine}
-use Rattle.plan.specs.Faults.{unless, filled}
 use Rattle.run.specs.Told.{Told, instruct, complete, refuse}
 use Rattle.demands.specs.EachCall.{OneOf}
-use Rattle.demands.proofs.Demand1Laws.{unless-one, one-of-more, crewNumbers, Numbered, refusal-said}
+use Rattle.demands.proofs.Demand1Laws.{crewNumbers, Numbered, refusal-said}
 use Rattle.plan.proofs.RefusalLaws.{no-refusal}
-use Rattle.answers.specs.Numbers.{faultNumber, numbered, answerNumber, toldNumber}
+use Rattle.answers.specs.Numbers.{numbered, answerNumber, toldNumber}
 use Rattle.answers.specs.Steps.{toldBytes}
-use Rattle.tureenlark.specs.Library.{shortFault}
 use Rattle.tureenlark.specs.Exported.{refusals, answerIn, faultIn, moveIn, toldIn}
 use Rattle.tureenlark.specs.LibraryDemands.{ResultOr}
 

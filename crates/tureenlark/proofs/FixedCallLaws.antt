@@ -3,25 +3,21 @@
 use mathlib.Core.Path.{_≡_, refl, sym, ap, _∙_, subst}
 use mathlib.Core.Logic.{_↔_, _⊎_, inl, inr}
 use mathlib.Core.Bool.{Bool, true, false}
-use mathlib.Core.List.{List, [], _∷_, _++_}
+use mathlib.Core.List.{List, _++_}
 use Prim.Native.Nat.{ℕ, _+_, _≤_, _<_}
 use native.Mathlib.Omega.{arith}
-use lib.Dec.{leb, eqb}
-use lib.ListN.{length, take, drop, replicate}
+use lib.Dec.{eqb}
+use lib.ListN.{length, take, drop}
 use lib.Seq.{take-at, drop-append-seam}
 use Rattle.network.specs.Mask.{digit}
 use Rattle.network.specs.Fixed.{Setting, PassesScreen}
 use Rattle.network.proofs.Booleans.{by-test, eqb-is, eqb-no, differs}
 use Rattle.plan.specs.declared.Plan.{Plan}
-use Rattle.plan.specs.declared.Refusal.the-variants as refusal
 use Rattle.plan.specs.Answer.{Answer, fine}
-use Rattle.plan.specs.Faults.{unless, first, filled}
+use Rattle.plan.specs.Faults.{first}
 use Rattle.plan.specs.Plan.{networkOf}
 use Rattle.plan.specs.WellFormed.{WellFormed}
-use Rattle.frame.specs.Texts.{roomFault}
 use Rattle.verdict.specs.declared.Found.the-variants as found
-use Rattle.verdict.specs.declared.Verdict.{Verdict}
-use Rattle.verdict.specs.declared.screen.Screened.{Screened}
 use Rattle.verdict.specs.declared.screen.Screened.the-variants as screened
 use Rattle.verdict.specs.Says.{Says}
 use Rattle.verdict.specs.Answers.{Fixed, none}
@@ -33,12 +29,12 @@ use Rattle.demands.proofs.Demand1Theorem.{demand1}
 use Rattle.demands.proofs.FixedOutcomesTheorem.{fixed-outcomes}
 use Rattle.records.specs.Records.{planIn, planLength}
 use Rattle.answers.specs.Numbers.{numbered}
-use Rattle.tureenlark.specs.Library.{planShort, shortFault, unlessShort, scheduleLength, scheduleShort, leastScheduleNumber, slotsFor}
+use Rattle.tureenlark.specs.Library.{planShort, shortFault, scheduleLength, leastScheduleNumber, slotsFor}
 use Rattle.tureenlark.specs.Library.{leastScheduleLeft, screenNumber, answerFault, answerTextNumber, answerTextLeft}
 use Rattle.tureenlark.specs.Exported.{refusals, faultIn}
 use Rattle.tureenlark.specs.LibraryDemands.{Ten}
-use Rattle.tureenlark.proofs.LibraryLaws.{short, long, then-short, left-long, left-short}
-use Rattle.tureenlark.proofs.DecodeLaws.{number-fine, number-refused, fault-in, is-result}
+use Rattle.tureenlark.proofs.LibraryLaws.{short, long, then-short, left-long}
+use Rattle.tureenlark.proofs.DecodeLaws.{number-fine, number-refused, fault-in}
 use Rattle.tureenlark.proofs.PlanCallLaws.{long-number, long-fault}
 use Rattle.tureenlark.proofs.RunCallLaws.{front-is, kept-is}
 

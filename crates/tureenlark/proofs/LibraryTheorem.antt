@@ -1,16 +1,13 @@
 -- Theorem: this library meets the demands. Read the statement in specs/LibraryDemands.antt; only the checker need believe the proof.
-use mathlib.Core.Path.{_≡_, refl, sym, ap, _∙_}
+use mathlib.Core.Path.{_≡_, sym, ap, _∙_}
 use mathlib.Core.Logic.{_⊎_, inl, inr, ⊎-elim, by-cases}
 use mathlib.Core.List.{List, _++_}
 use Prim.Native.Nat.{ℕ, _≤_, _<_}
 use native.Mathlib.Omega.{arith}
 use native.Mathlib.Decide.{decLt}
-use lib.Dec.{eqb}
 use lib.ListN.{length, drop, replicate}
-use Rattle.network.proofs.Booleans.{by-test, eqb-is, eqb-no, differs}
-use Rattle.plan.specs.Faults.{first, filled}
+use Rattle.plan.specs.Faults.{first}
 use Rattle.judge.specs.Judge.{planFault}
-use Rattle.plan_text.specs.PlanText.{planText}
 use Rattle.plan_text.specs.ReadPlan.{readPlan}
 use Rattle.plan_text.specs.WritePlan.{writePlan, writePlanLeaves}
 use Rattle.checker.specs.Checker.{checkFault}
@@ -20,11 +17,10 @@ use Rattle.verdict.specs.Verdict.{leastSchedule, screened}
 use Rattle.records.specs.Records.{planIn, planBytes, planLength, historyBytes, historyLength}
 use Rattle.answers.specs.Numbers.{toldNumber}
 use Rattle.answers.specs.Steps.{toldBytes}
-use Rattle.tureenlark.specs.Library.{planShort, historyShort, shortFault, instructionLength, stepsLength, scheduleLength, showShort, toldAt}
+use Rattle.tureenlark.specs.Library.{planShort, shortFault, instructionLength, stepsLength, scheduleLength, showShort, toldAt}
 use Rattle.tureenlark.specs.Library.{reportShort, reportAt, followShort, followed, stepsBytes, scheduleShort, slotsFor}
 use Rattle.tureenlark.specs.Library.{showNumber, showLeft, reportNumber, reportLeft, followNumber, followHistory, followSteps}
 use Rattle.tureenlark.specs.Library.{leastScheduleNumber, leastScheduleLeft}
-use Rattle.tureenlark.specs.Exported.{refusals}
 use Rattle.tureenlark.specs.ThisLibrary.{library}
 use Rattle.tureenlark.specs.LibraryDemands.{Ten, LibraryDemands}
 use Rattle.tureenlark.proofs.LibraryLaws.{short, long, first-short, then-short, number-short, number-refused, told-short, left-short, filled-short}

@@ -3,22 +3,20 @@
 use mathlib.Core.Path.{_≡_, refl, sym, ap, _∙_, subst}
 use mathlib.Core.Logic.{_↔_, by-cases}
 use mathlib.Core.Bool.{true}
-use mathlib.Core.List.{List, [], _∷_, _++_}
+use mathlib.Core.List.{List, _++_}
 use Prim.Native.Nat.{ℕ, _+_, _≤_, _<_}
 use native.Mathlib.Omega.{arith}
 use native.Mathlib.Decide.{decLt}
-use lib.Dec.{eqb}
 use lib.ListN.{length, take, drop, length-append}
 use Rattle.network.specs.Strategy.{Strategy, Viable, Dynamic, DynamicallyConsistent}
 use Rattle.network.specs.Game.{start}
 use Rattle.network.specs.Tree.{Tree, preorder}
 use Rattle.network.specs.FirstMoves.{FirstMoves}
 use Rattle.network.specs.Policy.{Policy, SucceedsAlways}
-use Rattle.network.proofs.Booleans.{by-test, eqb-is, differs}
 use Rattle.plan.specs.declared.Plan.{Plan}
 use Rattle.plan.specs.declared.Refusal.the-variants as refusal
 use Rattle.plan.specs.Answer.{Answer, fine}
-use Rattle.plan.specs.Faults.{unless, first, answered, filled}
+use Rattle.plan.specs.Faults.{unless, first, filled}
 use Rattle.plan.specs.Plan.{networkOf}
 use Rattle.plan.specs.WellFormed.{WellFormed}
 use Rattle.plan.proofs.AnswerLaws.{answered-zero}
@@ -36,16 +34,14 @@ use Rattle.tree_text.specs.ReadTree.{readNodes, readTree, readTreeLeaves}
 use Rattle.tree_text.specs.WriteTree.{writeTree, writeTreeLeaves}
 use Rattle.checker.specs.Checker.{checkFault}
 use Rattle.search.specs.declared.Searched.{Searched}
-use Rattle.search.specs.declared.Searched.the-variants as searched
 use Rattle.search.specs.Searched.{searchedAnswer}
-use Rattle.search.specs.Search.{searchFault, searchAnswer, searchLeaves}
+use Rattle.search.specs.Search.{searchAnswer, searchLeaves}
 use Rattle.search.proofs.SearchTheorems.{fault-is, refused-zero, hopeless-exactly}
 use Rattle.following.specs.ThisRun.{theRun}
 use Rattle.demands.specs.EachCall.{Sized, AnswersJudge, AnswersReadPlan, AnswersWritePlan, AnswersReadTree, AnswersWriteTree, AnswersCheck}
 use Rattle.demands.specs.EachCall.{AnswersSearch}
 use Rattle.demands.specs.Demand2.{DescribesStrategy}
-use Rattle.demands.specs.ThisPlanner.{planner}
-use Rattle.demands.specs.Demand3.{SearchedBy, Hopeless, Demand3For}
+use Rattle.demands.specs.Demand3.{Hopeless, Demand3For}
 use Rattle.demands.proofs.Demand1Theorem.{demand1}
 use Rattle.demands.proofs.Demand2Theorem.{demand2}
 use Rattle.demands.proofs.Demand3Theorem.{demand3}
@@ -53,12 +49,11 @@ use Rattle.demands.proofs.SaidLaws.{search-said}
 use Rattle.records.specs.Records.{planIn, planBytes, planLength}
 use Rattle.records.proofs.RecordsTheorems.{plan-bytes}
 use Rattle.answers.specs.Numbers.{numbered}
-use Rattle.tureenlark.specs.Library.{planShort, unlessShort, judgePlanNumber, readPlanNumber, readPlanLeft, writePlanNumber, writePlanLeft}
+use Rattle.tureenlark.specs.Library.{planShort, judgePlanNumber, readPlanNumber, readPlanLeft, writePlanNumber, writePlanLeft}
 use Rattle.tureenlark.specs.Library.{readTreeNumber, writeTreeNumber, checkTreeNumber, searchNumber, searchLeft}
 use Rattle.tureenlark.specs.Exported.{refusals, answerIn, faultIn}
-use Rattle.tureenlark.specs.LibraryDemands.{Ten}
-use Rattle.tureenlark.proofs.LibraryLaws.{short, long, number-short, number-long, left-short, left-long, filled-short}
-use Rattle.tureenlark.proofs.LibraryTheorems.{read-crosses, searched-exactly, plan-written-exactly, tree-written-exactly, tree-read-exactly}
+use Rattle.tureenlark.proofs.LibraryLaws.{short, long, number-short, number-long, left-long}
+use Rattle.tureenlark.proofs.LibraryTheorems.{read-crosses}
 use Rattle.tureenlark.proofs.DecodeLaws.{fine-in, fault-in, small-value, answer-in, one-is, is-one, is-result, refused-is, is-refused}
 use Rattle.tureenlark.proofs.RangeLaws.{plan-written-most, tree-read-most, tree-written-most, searched-most}
 

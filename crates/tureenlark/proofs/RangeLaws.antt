@@ -3,21 +3,19 @@
 use mathlib.Core.Path.{_≡_, refl, sym, ap, _∙_}
 use mathlib.Core.Logic.{_⊎_, inl, inr, ⊎-elim}
 use mathlib.Core.Bool.{Bool, true, false, cond}
-use mathlib.Core.List.{List, [], _∷_, _++_}
-use Prim.Native.Nat.{ℕ, _+_, _*_, _≤_, _<_}
+use mathlib.Core.List.{List, [], _∷_}
+use Prim.Native.Nat.{ℕ, _≤_}
 use native.Mathlib.Omega.{arith}
 use lib.Dec.{leb, eqb}
-use lib.ListN.{length, drop, replicate}
+use lib.ListN.{length}
 use Rattle.network.specs.Mask.{digit}
-use Rattle.network.proofs.Booleans.{by-test, eqb-is, differs}
+use Rattle.network.proofs.Booleans.{by-test, differs}
 use Rattle.plan.specs.declared.Plan.{Plan}
 use Rattle.plan.specs.declared.Refusal.the-variants as refusal
-use Rattle.plan.specs.Faults.{unless, first, answered, filled}
-use Rattle.plan.proofs.AnswerLaws.{first-none, unless-is}
+use Rattle.plan.specs.Faults.{first}
+use Rattle.plan.proofs.AnswerLaws.{first-none}
 use Rattle.plan.specs.Plan.{listed, networkOf}
 use Rattle.judge.specs.Judge.{planFault}
-use Rattle.judge.proofs.JudgeTheorems.{fine-exactly}
-use Rattle.frame.specs.Texts.{roomFault}
 use Rattle.tree.specs.Nodes.{legalLength}
 use Rattle.tree.specs.Trees.{treeBytes}
 use Rattle.tree.proofs.NodeLaws.{legal-is}
@@ -26,20 +24,17 @@ use Rattle.plan_text.specs.ReadPlan.{readPlan}
 use Rattle.plan_text.specs.WritePlan.{writePlan}
 use Rattle.plan_text.proofs.LengthLaws.{plan-length}
 use Rattle.plan_text.proofs.PlanTextTheorems.{at-most-1025}
-use Rattle.tree_text.specs.TreeText.{treeText}
 use Rattle.tree_text.specs.ReadTree.{readTree}
 use Rattle.tree_text.specs.WriteTree.{writeTree}
 use Rattle.tree_text.proofs.TreeTextLaws.{text-length}
 use Rattle.checker.specs.Checker.{checkFault}
-use Rattle.search.specs.Search.{searchFault, searchAnswer}
+use Rattle.search.specs.Search.{searchAnswer}
 use Rattle.search.proofs.SearchTheorems.{fault-is, count-bounds}
-use Rattle.run.specs.Run.{showAnswer, reportAnswer}
-use Rattle.following.specs.declared.Followed.{Followed}
 use Rattle.verdict.specs.Verdict.{leastSchedule, screened}
 use Rattle.answer_text.specs.AnswerText.{answerText}
 use Rattle.answer_text.proofs.AnswerTextTheorems.{answer-fits}
 use Rattle.demands.specs.EachCall.{OneOf}
-use Rattle.demands.proofs.Demand1Laws.{allAmong, one-of, one-of-more, first-one, unless-one, by-plan, plan-one, write-one, crewNumbers}
+use Rattle.demands.proofs.Demand1Laws.{allAmong, one-of-more, first-one, unless-one, by-plan, plan-one, write-one, crewNumbers}
 use Rattle.demands.proofs.Demand1Theorem.{demand1, show-numbered, reports-one, search-one}
 use Rattle.records.specs.Records.{planIn, planLength, historyIn, historyLength}
 use Rattle.answers.specs.Numbers.{faultNumber, toldNumber}

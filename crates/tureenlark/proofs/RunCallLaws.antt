@@ -1,26 +1,23 @@
 -- Laws: the exported calls of the crew's run, over records that are long enough. Only the checker need believe this file;
 -- specs/LibraryDemands.antt has the statements.
 use mathlib.Core.Path.{_≡_, refl, sym, ap, _∙_, subst}
-use mathlib.Core.Logic.{_↔_}
 use mathlib.Core.Bool.{cond}
 use mathlib.Core.List.{List, [], _∷_, _++_, map}
-use Prim.Native.Nat.{ℕ, zero, suc, _+_, _-_, _*_, _≤_, _<_}
+use Prim.Native.Nat.{ℕ, zero, suc, _+_, _-_, _≤_, _<_}
 use native.Mathlib.Omega.{arith}
 use lib.Dec.{eqb}
-use lib.ListN.{length, take, drop, getD, replicate, take-append-drop, length-set, List·getD-append}
-use lib.Seq.{drop-append-seam}
+use lib.ListN.{length, drop, getD, replicate, take-append-drop, length-set, List·getD-append}
 use Rattle.network.specs.Mask.{joinBelow}
 use Rattle.network.specs.Crew as crew
 use Rattle.network.proofs.JoinLaws.{join-first}
 use Rattle.network.proofs.Booleans.{by-test, eqb-is, eqb-no, differs}
-use Rattle.plan.specs.declared.Plan.{Plan}
 use Rattle.plan.specs.Answer.{Answer, fine}
 use Rattle.plan.specs.Faults.{first, filled}
 use Rattle.plan.specs.Plan.{listed}
 use Rattle.plan.proofs.PlanLaws.{listed-same}
 use Rattle.tree.specs.Nodes.{firstNodes}
 use Rattle.search.specs.declared.Searched.the-variants as searched
-use Rattle.search.specs.Search.{searchAnswer, searchLeaves}
+use Rattle.search.specs.Search.{searchAnswer}
 use Rattle.search.proofs.SearchTheorems.{answered-exactly, fault-is}
 use Rattle.run.specs.declared.History.{History}
 use Rattle.run.specs.Told.{Told, instruct, complete, refuse}
@@ -39,7 +36,7 @@ use Rattle.records.specs.Records.{planIn, planLength, historyIn, historyBytes, 
 use Rattle.records.proofs.RecordsTheorems.{history-crosses, history-bytes-cross}
 use Rattle.answers.specs.Numbers.{faultNumber, numbered, toldNumber}
 use Rattle.answers.specs.Steps.{toldBytes, stepBytes}
-use Rattle.tureenlark.specs.Library.{planShort, historyShort, shortFault, instructionLength, stepsLength, showShort, toldAt, showNumber}
+use Rattle.tureenlark.specs.Library.{planShort, historyShort, instructionLength, stepsLength, showShort, toldAt, showNumber}
 use Rattle.tureenlark.specs.Library.{showLeft, reportShort, reportAt, reportNumber, reportLeft, searchNumber, searchLeft}
 use Rattle.tureenlark.specs.Library.{stepsBytes, followShort, followed, followNumber, followHistory, followSteps}
 use Rattle.tureenlark.specs.Exported.{refusals, faultIn, moveIn, toldIn, runOf, bytesOfSteps}
