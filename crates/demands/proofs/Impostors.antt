@@ -260,7 +260,7 @@ done-early-fails d =
 
 -- ---- A run that tells the whole path at its first report and merely repeats later. That report may name any of the plan's conditions,
 -- heard in that move or not; the path is then the one of this scenario, whatever the later reports say. It breaks part 6: two crews that
--- heard alike before a slot are told different things in it.
+-- heard alike before a slot are told different things in it. (It breaks part 4 too: its first report may name what is not heard there.)
 
 -- the history behind the next instruction, and behind the next n, where this scenario comes
 abbrev foreseen : Plan → ℕ → History → Told → History
