@@ -37,7 +37,7 @@ use Rattle.tree_text.specs.TreeText.{treeText}
 use Rattle.tree_text.specs.WriteTree.{writeTree, writeTreeLeaves}
 use Rattle.tree_text.specs.ReadTree.{readNodes, bytesIn, readTree, readTreeLeaves}
 use Rattle.tree_text.proofs.TreeTextTheorems.{read-exactly, whatever-reads, refused-with-five}
-use Rattle.checker.specs.Checker.{treeFault, checkFault}
+use Rattle.checker.specs.Checker.{checkFault}
 use Rattle.checker.proofs.FaultLaws.{described-legal}
 use Rattle.checker.proofs.CheckerTheorems.{six-exactly, seven-exactly, yes-six-or-seven, plan-first}
 use Rattle.search.specs.Search.{searchFault, searchAnswer, searchLeaves}
@@ -61,6 +61,7 @@ use Rattle.verdict.specs.Answers.{Fixed, none}
 use Rattle.verdict.proofs.AnswerLaws.{eight-answer, screen-plan-fault, fine-answer, mask-fault}
 use Rattle.answer_text.specs.AnswerText.{answerText}
 use Rattle.answer_text.proofs.AnswerTextTheorems.{by-input}
+use Rattle.run.proofs.ToldFromLaws.{accepted-plan}
 use Rattle.demands.specs.ThisPlanner.{planner}
 use Rattle.demands.specs.EachCall.{OneOf, Fills, SaysTree, AnswersJudge, AnswersReadPlan, AnswersWritePlan, AnswersReadTree}
 use Rattle.demands.specs.EachCall.{AnswersWriteTree, AnswersCheck, AnswersSearch, AnswersShow, AnswersReport, AnswersVerdict, AnswersScreen, AnswersProgram}
@@ -211,11 +212,6 @@ write-tree-so bs xs =
 
 -- ---- checking
 
--- the checker says yes only of a well-formed plan
-plan-fine : (p : Plan) (bs : List ℕ) → checkFault p bs ≡ 0 → WellFormed p
-unfolding checkFault
-plan-fine p bs e = fine-exactly p .0 (first-none (planFault p) (treeFault p bs) e .0)
-
 check-one : (p : Plan) (bs : List ℕ) → OneOf (0 ∷ 2 ∷ 3 ∷ 4 ∷ 6 ∷ 7 ∷ []) (checkFault p bs)
 check-one p bs =
     by-plan p
@@ -322,7 +318,7 @@ show-so p bs h =
       history = λ a z. history-next p bs h (sym (check-one-number p bs 0 a)) z;
       by-tree = λ a fine t d.
           let yes = sym (check-one-number p bs 0 a) in
-          shows-fine p (plan-fine p bs yes) bs t d yes h fine;
+          shows-fine p (accepted-plan p bs yes) bs t d yes h fine;
     }
 
 pub reports-one : (p : Plan) (bs : List ℕ) (h : History) (o : ℕ) → OneOf (0 ∷ crewNumbers) (reportAnswer p bs h o .fault)

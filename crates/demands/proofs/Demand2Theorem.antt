@@ -14,9 +14,6 @@ use Rattle.plan.specs.Answer.{Answer, fine}
 use Rattle.plan.specs.Faults.{unless, first, answered, filled}
 use Rattle.plan.specs.Plan.{networkOf}
 use Rattle.plan.specs.WellFormed.{WellFormed}
-use Rattle.plan.proofs.AnswerLaws.{first-none}
-use Rattle.judge.specs.Judge.{planFault}
-use Rattle.judge.proofs.JudgeTheorems.{fine-exactly}
 use Rattle.frame.specs.Frame.{Bytes}
 use Rattle.tree.specs.Nodes.{mostBytes, legalLength, nodeCount, firstNodes}
 use Rattle.tree.proofs.NodeLaws.{legal-is}
@@ -25,8 +22,8 @@ use Rattle.plan_text.proofs.PlanTextTheorems as plan-text
 use Rattle.tree_text.specs.TreeText.{treeText}
 use Rattle.tree_text.specs.ReadTree.{readNodes, bytesIn, readTree, readTreeLeaves}
 use Rattle.tree_text.proofs.TreeTextTheorems as tree-text
-use Rattle.checker.specs.Checker.{treeFault, checkFault}
 use Rattle.checker.proofs.CheckerTheorems as checker
+use Rattle.run.proofs.ToldFromLaws.{accepted-plan}
 use Rattle.demands.specs.ThisPlanner.{planner}
 use Rattle.demands.specs.EachCall.{Sized}
 use Rattle.demands.specs.Demand2.{planTextIn, treeTextIn, Demand2}
@@ -113,11 +110,6 @@ tree-one-so bs cs h h′ legal legal′ xs ys room room′ e =
 
 -- ---- the checker
 
--- it says yes only of a well-formed plan
-plan-fine : (p : Plan) (bs : List ℕ) → checkFault p bs ≡ 0 → WellFormed p
-unfolding checkFault
-plan-fine p bs e = fine-exactly p .0 (first-none (planFault p) (treeFault p bs) e .0)
-
 -- ---- The theorem
 
 pub demand2 : Demand2 planner
@@ -137,7 +129,7 @@ demand2 =
       tree-one = tree-one-so;
       yes-exactly = λ p bs. (
         λ e.
-            let wf = plan-fine p bs e in
+            let wf = accepted-plan p bs e in
             let (t, d, dynamic, viable) = checker.yes-exactly p wf bs .0 e in
             (wf, (strategyOf (networkOf p) t, (t, d, refl), dynamic, viable)),
         λ (wf, (σ, (t, d, is), dynamic, viable)). checker.yes-exactly p wf bs .1 (t, d, rw is dynamic, rw is viable),

@@ -1,18 +1,19 @@
 -- Theorem: demand 3 holds of this planner. Read the statement in specs/Demand3.antt; only the checker need believe the proof.
 use mathlib.Core.Path.{_≡_, refl, sym, ap, _∙_, subst}
 use mathlib.Core.Logic.{_↔_, by-cases}
-use mathlib.Core.List.{List, [], _∷_}
-use Prim.Native.Nat.{ℕ, _*_, _≤_}
+use mathlib.Core.List.{List}
+use Prim.Native.Nat.{ℕ, _≤_}
 use native.Mathlib.Omega.{arith}
 use lib.ListN.{length}
 use Rattle.network.specs.Network.{Network}
 use Rattle.network.specs.IsNetwork.{IsNetwork}
 use Rattle.network.specs.Strategy.{DynamicallyConsistent}
-use Rattle.network.specs.Game.{start, Move}
+use Rattle.network.specs.Game.{start}
 use Rattle.network.specs.Tree.{Tree, preorder}
 use Rattle.network.specs.Walks.{Wins}
 use Rattle.network.specs.FirstMoves.{FirstMoves}
 use Rattle.network.specs.Search.{firstTree}
+use Rattle.network.proofs.SizeLaws.{nodes-in-order}
 use Rattle.network.proofs.TreeStrategy.{wins→shaped}
 use Rattle.network.proofs.FirstLaws.{first→sound}
 use Rattle.network.proofs.Theorems.{consistent-exactly, consistent-decided, no-policy}
@@ -23,7 +24,8 @@ use Rattle.plan.specs.Plan.{networkOf}
 use Rattle.plan.specs.WellFormed.{WellFormed}
 use Rattle.plan.proofs.PlanTheorems.{is-network}
 use Rattle.tree.specs.Nodes.{mostBytes, firstNodes, overwritten}
-use Rattle.tree.specs.Trees.{movesBytes, treeBytes, Describes}
+use Rattle.tree.specs.Trees.{treeBytes, Describes}
+use Rattle.tree.proofs.TreeLaws.{tree-length}
 use Rattle.search.specs.declared.Searched.{Searched}
 use Rattle.search.specs.declared.Searched.the-variants as searched
 use Rattle.search.specs.Search.{searchFault, searchAnswer, searchLeaves}
@@ -39,12 +41,6 @@ use Rattle.demands.proofs.ListLaws.{EveryList, EveryTwoLists}
 use Rattle.demands.proofs.MadeLaws.{callsOf, crew-so, two-crews-so}
 use Rattle.demands.proofs.SaidLaws.{search-said, run-said, calls-follow}
 use Rattle.demands.proofs.EveryListLaws.{every-list-so, every-two-lists-so}
-
--- three bytes to a move
-moves-length : (ms : List Move) → length (movesBytes ms) ≡ 3 * length ms
-unfolding movesBytes
-moves-length [] = refl
-moves-length (m ∷ ms) = let on = moves-length ms in omega arith
 
 module _ (p : Plan) (lent : List ℕ) (wf : WellFormed p) (room : mostBytes ≤ length lent) where
   abbrev net : Network
@@ -73,7 +69,8 @@ module _ (p : Plan) (lent : List ℕ) (wf : WellFormed p) (room : mostBytes ≤ 
     -- its nodes are counted
     counted : (t : Tree) → FirstMoves net t (start net) → length (preorder net t) ≡ searchAnswer p lent .value
     counted t f =
-        let long = moves-length (preorder net t) in
+        let long = tree-length net t in
+        let as-many = nodes-in-order net t in
         let same = ap length (only-bytes p lent none t f) in
         let three-each = answered-so p lent none .three-each in
         omega arith

@@ -2,7 +2,7 @@
 -- every crew. Only the checker need believe this file.
 use mathlib.Core.Path.{_≡_, refl, sym, ap, _∙_, subst}
 use mathlib.Core.List.{List, [], _∷_, _++_, map, append-assoc, append-nil}
-use Prim.Native.Nat.{ℕ, zero, suc}
+use Prim.Native.Nat.{ℕ}
 use native.Mathlib.Omega.{arith}
 use Rattle.network.specs.Game.{Move, Outcome}
 use Rattle.network.specs.Crew.{Step}
@@ -21,6 +21,7 @@ use Rattle.run.specs.History.{historyOf, emptyHistory}
 use Rattle.run.specs.Told.{instruct, complete, instructed, shownTold, instructionAt}
 use Rattle.run.proofs.ToldLaws.{done-is-not, refused-is-not}
 use Rattle.following.specs.Calls.{Run, Call, showing, reporting, Progress, begun, stepsOf, afterCall, afterCalls}
+use Rattle.following.proofs.FollowLaws.{no-step-refused}
 use Rattle.demands.specs.Crews.{ShownBy, ReportedBy, Made, showed, reported, Answered, acceptedBy, heldAfter, followedBy, stepsTaken, Crew, historyHeld, stepsFollowed, reportsMade, Done}
 use Rattle.demands.specs.Demand3.{CanBeLengthened, EveryCrew, EveryTwoCrews}
 use Rattle.demands.proofs.ListLaws.{historyAfter, stepsAfter, toldAfter, ListDone, Lengthened, EveryList, EveryTwoLists}
@@ -36,16 +37,10 @@ says-done (shown.Refused k) e = let z : _≡_ {A = ℕ} 0 1 = cc in absurd (omeg
 instructs-one : {m k : Move} → instruct m ≡ instruct k → m ≡ k
 instructs-one e = cc
 
--- a report with a fault follows no instruction
-refused-follows : (m : Move) (o n : ℕ) → ¬ (n ≡ 0) → stepsOf (instruct m) o n ≡ []
-unfolding stepsOf
-refused-follows m o zero some = absurd (some refl)
-refused-follows m o (suc n) some = refl
-
 followed-is : (s : Shown) (o : ℕ) (j : Judged) → followedBy s o j ≡ stepsOf (shownTold s) o (judgedNumber j)
 unfolding stepsOf
 followed-is (shown.Instruct v) o judged.Fine = refl
-followed-is (shown.Instruct v) o (judged.Refused r) = sym (refused-follows (instructed v) o (refusalNumber r) (no-refusal r))
+followed-is (shown.Instruct v) o (judged.Refused r) = sym (no-step-refused (instruct (instructed v)) o (refusalNumber r) (no-refusal r))
 followed-is shown.Done o j = refl
 followed-is (shown.Refused r) o j = refl
 

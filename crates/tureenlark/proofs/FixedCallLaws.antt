@@ -25,6 +25,7 @@ use Rattle.verdict.specs.Verdict.{leastSchedule, screened}
 use Rattle.verdict.proofs.AnswerLaws.{eight-answer, fine-answer}
 use Rattle.answer_text.specs.AnswerText.{answerText}
 use Rattle.demands.specs.EachCall.{AnswersVerdict, AnswersScreen, AnswersProgram}
+use Rattle.demands.proofs.Demand1Laws.{stays}
 use Rattle.demands.proofs.Demand1Theorem.{demand1}
 use Rattle.demands.proofs.FixedOutcomesTheorem.{fixed-outcomes}
 use Rattle.records.specs.Records.{planIn, planLength}
@@ -36,7 +37,7 @@ use Rattle.tureenlark.specs.LibraryDemands.{Ten}
 use Rattle.tureenlark.proofs.LibraryLaws.{short, long, then-short, left-long}
 use Rattle.tureenlark.proofs.DecodeLaws.{number-fine, number-refused, fault-in}
 use Rattle.tureenlark.proofs.PlanCallLaws.{long-number, long-fault}
-use Rattle.tureenlark.proofs.RunCallLaws.{front-is, kept-is}
+use Rattle.tureenlark.proofs.RunCallLaws.{front-is}
 
 -- ---- a yes or no as a number
 
@@ -179,7 +180,7 @@ answer-so input = (
       let ten = short (length (answerText input)) text lt in
       let some : ¬ (answerFault input text ≡ 0) = λ e. omega (arith, ten, e) in (
         number-refused (answerFault input text) (length (answerText input)) some ∙ ap (λ (k : ℕ). refusals + k) ten,
-        kept-is (answerFault input text) (answerText input) text some,
+        stays (answerFault input text) (answerText input) text some,
       ),
   λ text le.
       let none = long (length (answerText input)) text le in

@@ -8,7 +8,7 @@ use Prim.Native.Nat.{ℕ, _≤_}
 use lib.Dec.{eqb}
 use lib.ListN.{length, take, drop, replicate, take-append-drop}
 use Rattle.network.specs.Mask.{digit}
-use Rattle.network.proofs.Booleans.{by-test, eqb-is, eqb-no, leb-is, differs}
+use Rattle.network.proofs.Booleans.{by-test, eqb-is, leb-is, differs}
 use Rattle.plan.specs.declared.Refusal.the-variants as refusal
 use Rattle.plan.specs.declared.Plan.{Plan}
 use Rattle.plan.specs.Plan.{listed}
@@ -21,6 +21,7 @@ use Rattle.run.proofs.RunTheorems.{refused-same}
 use Rattle.verdict.specs.Answers.{none, Fixed}
 use Rattle.verdict.specs.Verdict.{verdictFault, leastSchedule}
 use Rattle.verdict.proofs.AnswerLaws.{eight-answer}
+use Rattle.demands.proofs.Demand1Laws.{stays}
 use Rattle.records.specs.Records.{planIn, planBytes, planLength, historyIn, historyBytes, historyLength}
 use Rattle.records.proofs.RecordsTheorems.{plan-bytes, plan-crosses, behind-ignored, history-bytes-cross}
 use Rattle.answers.specs.Numbers.{numbered}
@@ -60,10 +61,6 @@ kept : (n : ℕ) (bytes xs : List ℕ) → length bytes ≡ n → bytes ≡ take
 unfolding filled
 kept n bytes xs long is = rw long (ap (λ (l : List ℕ). l ++ drop n xs) is ∙ take-append-drop n xs)
 
-short-kept : (fault : ℕ) (bytes xs : List ℕ) → ¬ (fault ≡ 0) → filled fault bytes xs ≡ xs
-unfolding filled
-short-kept fault bytes xs some = rw (eqb-no fault 0 some)
-
 nine : (bs : List ℕ) → length (historyBytes (historyIn bs)) ≡ historyLength
 unfolding listed
 nine bs = refl
@@ -83,7 +80,7 @@ report-refused-same plan tree history mask not-one =
     ap (λ (n : ℕ). filled n (historyBytes (a .value)) history) none
     ∙ ap (λ (h : History). filled 0 (historyBytes h) history) same
     ∙ kept historyLength (historyBytes (historyIn history)) history (nine history) (history-bytes-cross history enough))
-    (λ z. short-kept f (historyBytes (a .value)) history (differs f 0 z))
+    (λ z. stays f (historyBytes (a .value)) history (differs f 0 z))
 
 -- ---- A schedule's place that is there: where no schedule is answered, its eight bytes are zero. So beside "none" and under every refusal, 10
 -- for a short plan among them.

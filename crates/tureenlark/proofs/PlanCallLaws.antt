@@ -14,15 +14,12 @@ use Rattle.network.specs.Tree.{Tree, preorder}
 use Rattle.network.specs.FirstMoves.{FirstMoves}
 use Rattle.network.specs.Policy.{Policy, SucceedsAlways}
 use Rattle.plan.specs.declared.Plan.{Plan}
-use Rattle.plan.specs.declared.Refusal.the-variants as refusal
 use Rattle.plan.specs.Answer.{Answer, fine}
-use Rattle.plan.specs.Faults.{unless, first, filled}
+use Rattle.plan.specs.Faults.{first, filled}
 use Rattle.plan.specs.Plan.{networkOf}
 use Rattle.plan.specs.WellFormed.{WellFormed}
-use Rattle.plan.proofs.AnswerLaws.{answered-zero}
 use Rattle.judge.specs.Judge.{planFault}
 use Rattle.frame.specs.Frame.{Bytes}
-use Rattle.frame.specs.Texts.{roomFault}
 use Rattle.tree.specs.Nodes.{mostBytes, legalLength, nodeCount, overwritten}
 use Rattle.tree.specs.Trees.{treeBytes}
 use Rattle.plan_text.specs.PlanText.{planText}
@@ -30,13 +27,13 @@ use Rattle.plan_text.specs.ReadPlan.{readPlan}
 use Rattle.plan_text.specs.WritePlan.{writePlan, writePlanLeaves}
 use Rattle.plan_text.proofs.PlanTextTheorems.{read-exactly}
 use Rattle.tree_text.specs.TreeText.{treeText}
-use Rattle.tree_text.specs.ReadTree.{readNodes, readTree, readTreeLeaves}
+use Rattle.tree_text.specs.ReadTree.{readTree, readTreeLeaves}
 use Rattle.tree_text.specs.WriteTree.{writeTree, writeTreeLeaves}
 use Rattle.checker.specs.Checker.{checkFault}
 use Rattle.search.specs.declared.Searched.{Searched}
 use Rattle.search.specs.Searched.{searchedAnswer}
 use Rattle.search.specs.Search.{searchAnswer, searchLeaves}
-use Rattle.search.proofs.SearchTheorems.{fault-is, refused-zero, hopeless-exactly}
+use Rattle.search.proofs.SearchTheorems.{fault-is, hopeless-exactly}
 use Rattle.following.specs.ThisRun.{theRun}
 use Rattle.demands.specs.EachCall.{Sized, AnswersJudge, AnswersReadPlan, AnswersWritePlan, AnswersReadTree, AnswersWriteTree, AnswersCheck}
 use Rattle.demands.specs.EachCall.{AnswersSearch}
@@ -137,15 +134,11 @@ module _ (plan : List ℕ) (enough : planLength ≤ length plan) where
 
   -- ---- writing a plan
 
-  written-zero : (text : List ℕ) → ¬ (writePlan p text .fault ≡ 0) → writePlan p text .value ≡ 0
-  unfolding writePlan
-  written-zero text = answered-zero 0 (first (planFault p) (roomFault (planText p) text)) (length (planText p))
-
   pub write-plan-so : (text : List ℕ) → AnswersWritePlan p text (answerIn (writePlanNumber plan text)) (writePlanLeft plan text)
   write-plan-so text =
       let a = writePlan p text in
       let most : a .fault ≡ 0 → a .value ≤ 1724 = λ e. omega (arith, plan-written-most p text e .1) in
-      let same = ap answerIn (long-number (a .fault) (a .value)) ∙ answer-in a most (written-zero text) in
+      let same = ap answerIn (long-number (a .fault) (a .value)) ∙ answer-in a most (demand1 .write-plan p text .beside) in
       let left = left-long (planShort plan) (writePlanLeaves p text) text not-short in
       subst (λ (x : Answer ℕ). AnswersWritePlan p text x (writePlanLeft plan text)) (sym same)
       (subst (AnswersWritePlan p text a) left (demand1 .write-plan p text))
@@ -153,11 +146,8 @@ module _ (plan : List ℕ) (enough : planLength ≤ length plan) where
   -- ---- the search
 
   module _ (tree : List ℕ) where
-    searched-zero : ¬ (searchAnswer p tree .fault ≡ 0) → searchAnswer p tree .value ≡ 0
-    searched-zero some = refused-zero p tree (λ e. some (fault-is p tree ∙ e))
-
     searched-small : searchAnswer p tree .value < refusals
-    searched-small = small-value (searchAnswer p tree) (λ e. omega (arith, searched-most p tree e .1)) searched-zero
+    searched-small = small-value (searchAnswer p tree) (λ e. omega (arith, searched-most p tree e .1)) (demand1 .search p tree .beside)
 
     pub search-number-is : searchNumber plan tree ≡ numbered (searchAnswer p tree .fault) (searchAnswer p tree .value)
     search-number-is = long-number (searchAnswer p tree .fault) (searchAnswer p tree .value)
@@ -168,7 +158,7 @@ module _ (plan : List ℕ) (enough : planLength ≤ length plan) where
     search-answer-is : answerIn (searchNumber plan tree) ≡ searchAnswer p tree
     search-answer-is =
         ap answerIn search-number-is
-        ∙ answer-in (searchAnswer p tree) (λ e. omega (arith, searched-most p tree e .1)) searched-zero
+        ∙ answer-in (searchAnswer p tree) (λ e. omega (arith, searched-most p tree e .1)) (demand1 .search p tree .beside)
 
     pub search-so : AnswersSearch p tree (answerIn (searchNumber plan tree)) (searchLeft plan tree)
     search-so =
@@ -254,25 +244,16 @@ read-plan-back-so text plan buffer one room =
 
 -- ---- trees and their texts
 
-tree-read-zero : (text tree : List ℕ) → ¬ (readTree text tree .fault ≡ 0) → readTree text tree .value ≡ 0
-unfolding readTree
-tree-read-zero text tree = answered-zero 0 _ (readNodes text .value)
-
 pub read-tree-so : (text tree : List ℕ) → AnswersReadTree text tree (answerIn (readTreeNumber text tree)) (readTreeLeaves text tree)
 read-tree-so text tree =
     let a = readTree text tree in
-    let same = answer-in a (λ e. omega (arith, tree-read-most text tree e .1)) (tree-read-zero text tree) in
+    let same = answer-in a (λ e. omega (arith, tree-read-most text tree e .1)) (λ some. demand1 .read-tree text tree .refused some .0) in
     subst (λ (x : Answer ℕ). AnswersReadTree text tree x (readTreeLeaves text tree)) (sym same) (demand1 .read-tree text tree)
-
-tree-written-zero : (tree text : List ℕ) → ¬ (writeTree tree text .fault ≡ 0) → writeTree tree text .value ≡ 0
-unfolding writeTree
-tree-written-zero tree text =
-    answered-zero 0 (first (unless (legalLength (length tree)) refusal.Shape) (roomFault (treeText tree) text)) (length (treeText tree))
 
 pub write-tree-so : (tree text : List ℕ) → AnswersWriteTree tree text (answerIn (writeTreeNumber tree text)) (writeTreeLeaves tree text)
 write-tree-so tree text =
     let a = writeTree tree text in
-    let same = answer-in a (λ e. tree-written-most tree text e .1) (tree-written-zero tree text) in
+    let same = answer-in a (λ e. tree-written-most tree text e .1) (demand1 .write-tree tree text .beside) in
     subst (λ (x : Answer ℕ). AnswersWriteTree tree text x (writeTreeLeaves tree text)) (sym same) (demand1 .write-tree tree text)
 
 pub tree-back-so :

@@ -29,6 +29,7 @@ use Rattle.following.specs.Following.{callsIn, zeroStep, stepRecord, followedRe
 use Rattle.demands.specs.EachCall.{AnswersShow, AnswersReport}
 use Rattle.demands.specs.Crews.{Crew}
 use Rattle.demands.specs.Demand3.{EveryCrew, EveryTwoCrews, Demand3For}
+use Rattle.demands.proofs.Demand1Laws.{stays}
 use Rattle.demands.proofs.Demand1Theorem.{demand1, show-numbered}
 use Rattle.demands.proofs.Demand3Theorem.{demand3}
 use Rattle.demands.proofs.AgreeLaws.{Eight, Agrees, calls-agree, calls-eight, every-crew-of, two-crews-of}
@@ -52,10 +53,6 @@ use Rattle.tureenlark.proofs.PlanCallLaws.{search-left-is, result-is}
 pub front-is : (f : ℕ) (bytes xs : List ℕ) → f ≡ 0 → filled f bytes xs ≡ bytes ++ drop (length bytes) xs
 unfolding filled
 front-is f bytes xs e = rw e
-
-pub kept-is : (f : ℕ) (bytes xs : List ℕ) → ¬ (f ≡ 0) → filled f bytes xs ≡ xs
-unfolding filled
-kept-is f bytes xs some = rw (eqb-no f 0 some)
 
 -- ---- showing
 
@@ -117,7 +114,7 @@ module _ (plan tree history instruction : List ℕ) where
         λ some. left ∙ so .1 (λ one. some (n ∙ one)),
       ))
       (λ z. let some = differs fault 0 z in
-      let stays = kept-is fault (toldBytes told) instruction some in (
+      let stays = stays fault (toldBytes told) instruction some in (
         λ one. absurd (omega (arith, number-short some, one)),
         λ n. stays,
       ))
@@ -196,7 +193,7 @@ module _ (plan tree history : List ℕ) (mask : ℕ) where
       (λ y. let is = front-is f bytes history (eqb-is f 0 y) ∙ ap (λ (n : ℕ). bytes ++ drop n history) nine-back in
       let there = ap historyIn is ∙ history-front (back .value) eight-back (drop historyLength history) in
       is ∙ ap (λ (h : History). historyBytes h ++ drop historyLength history) (sym there))
-      (λ z. let stays = kept-is f bytes history (differs f 0 z) in
+      (λ z. let stays = stays f bytes history (differs f 0 z) in
       stays ∙ own-bytes nine ∙ ap (λ (l : List ℕ). historyBytes (historyIn l) ++ drop historyLength history) (sym stays)) in
       (all, report-refused-same plan tree history mask)
 
