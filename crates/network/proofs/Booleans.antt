@@ -1,7 +1,7 @@
 -- Laws of Booleans and of tests of numbers. Only the checker need believe this file.
 use mathlib.Core.Path.{_≡_, refl, sym, _∙_, subst}
 use mathlib.Core.Logic.{_≢_, _↔_, _⊎_, inl, inr, ⊎-elim}
-use mathlib.Core.Bool.{Bool, true, false, not, _&&_, _||_, true≢false}
+use mathlib.Core.Bool.{Bool, true, false, not, _&&_, _||_, Bool·beq, true≢false}
 use Prim.Native.Nat.{ℕ, _≤_, _<_}
 use lib.Dec.{T, leb, ltb, eqb, leb→le, le→leb, ltb→lt, lt→ltb, eqb→eq, eqb-refl}
 
@@ -55,6 +55,20 @@ pub both-ways : (a b : Bool) → (a ≡ true → b ≡ true) → (b ≡ true →
 both-ways true b f g = sym (f refl)
 both-ways false true f g = g refl
 both-ways false false f g = refl
+
+-- ---- the test whether two Booleans are the same
+
+pub same-is : (a b : Bool) → Bool·beq a b ≡ true → a ≡ b
+same-is true true e = refl
+same-is true false e = sym e
+same-is false true e = e
+same-is false false e = refl
+
+pub same-yes : (a b : Bool) → a ≡ b → Bool·beq a b ≡ true
+same-yes true true e = refl
+same-yes true false e = sym e
+same-yes false true e = e
+same-yes false false e = refl
 
 -- ---- tests of numbers
 

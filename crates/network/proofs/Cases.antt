@@ -13,9 +13,12 @@ use lib.IntN.{ℤ, pos, negsuc}
 use Rattle.network.specs.Mask.{bit, mask, count, allBelow, firstBelow, joinBelow, submask}
 use Rattle.network.specs.Below.{anyBelow, sumBelow}
 use Rattle.network.specs.Network.{Constraint, Network, Schedule, condition, holds, combined, projected, atMost, feasible, keeps}
+use Rattle.network.specs.LabelTest.{Tested, Holds, Fails, Open}
+use Rattle.network.specs.TestLabel.{disagrees, allKnown, labelTest}
+use Rattle.network.specs.SoFar.{allKeptSoFar, keepsSoFar, performedAt, knownAt, keepsSoFarAt}
 use Rattle.network.specs.Strategy.{ConditionScenario, Strategy, Viable, InHistory, SameHistory, Dynamic}
 use Rattle.network.specs.Fixed.{ScheduleFor, Least, Setting, PassesScreen}
-use Rattle.network.specs.Game.{start, Move, Legal, after}
+use Rattle.network.specs.Game.{State, start, Move, Legal, after}
 use Rattle.network.specs.Tree.{preorder}
 use Rattle.network.specs.Sizes.{nodes}
 use Rattle.network.specs.Search.{over, winsBy, winsWith, winsIn, winnable, firstMove, firstTreeFrom, firstTree, hopeless}
@@ -106,6 +109,65 @@ pub trees :
     × (nodes k9 (firstTree k9) ≡ 3)
 unfolding bit mask count allBelow anyBelow firstBelow joinBelow sumBelow submask holds projected atMost feasible keeps start after over winsBy winsWith winsIn winnable firstMove firstTreeFrom preorder nodes
 trees = (refl, refl, refl, refl, refl, refl)
+
+-- ---- the label test by the letters known (card 1): letter 0 true and letter 1 false, and the empty label
+
+abbrev tested : ℕ → ℕ → Tested
+tested known values = labelTest known (bit values) (record { need = 3; truth = 1 })
+
+pub label-tests :
+    (tested 0 0 ≡ Open) × (tested 1 1 ≡ Open) × (tested 2 0 ≡ Open) × (tested 1 0 ≡ Fails) × (tested 2 2 ≡ Fails) × (tested 2 3 ≡ Fails)
+    × (tested 3 1 ≡ Holds) × (tested 3 3 ≡ Fails) × (tested 255 5 ≡ Holds)
+    × (labelTest 0 (bit 0) (record { need = 0; truth = 0 }) ≡ Holds)
+unfolding bit allBelow anyBelow disagrees allKnown labelTest
+label-tests = (refl, refl, refl, refl, refl, refl, refl, refl, refl, refl)
+
+-- ---- what is kept so far (card 1)
+
+-- Three points, condition 0 at point 0, decision 1 at point 2. Point 1 comes at least 1 after point 0; at least 2 after it where condition 0
+-- is true, and at least 3 where decision 1 is true.
+abbrev waiting-plan : Network
+waiting-plan =
+    record {
+      horizon = 3;
+      points = 3;
+      letters = 2;
+      disclosing = λ l. cond (eqb l 0) 0 2;
+      is-decision = mixed;
+      constraints = at-most 1 0 (negsuc 0) 0 0 ∷ (at-most 1 0 (negsuc 1) 1 1 ∷ (at-most 1 0 (negsuc 2) 2 2 ∷ []));
+    }
+
+abbrev first : Move → ℕ → State
+first m o = after waiting-plan (start waiting-plan) m o
+
+abbrev then : State → Move → State
+then s m = after waiting-plan s m 0
+
+-- the letters known and the points performed: none at the start; after point 0, condition 0; after points 1 and 2, decision 1
+pub known-so-far :
+    (knownAt waiting-plan (start waiting-plan) ≡ 0) × (performedAt waiting-plan (start waiting-plan) ≡ 0)
+    × (knownAt waiting-plan (first (move 0 1 0) 1) ≡ 1) × (performedAt waiting-plan (first (move 0 1 0) 1) ≡ 1)
+    × (knownAt waiting-plan (first (move 0 6 2) 0) ≡ 2) × (performedAt waiting-plan (first (move 0 6 2) 0) ≡ 6)
+unfolding bit mask start after
+known-so-far = (refl, refl, refl, refl, refl, refl)
+
+-- Points 0 and 1 in one slot break the first constraint. While one of them is left, and its slot reads 0, nothing is broken.
+pub points-so-far :
+    (keepsSoFarAt waiting-plan (start waiting-plan) ≡ true) × (keepsSoFarAt waiting-plan (first (move 0 3 0) 0) ≡ false)
+    × (keepsSoFarAt waiting-plan (first (move 2 1 0) 1) ≡ true) × (keepsSoFarAt waiting-plan (first (move 0 2 0) 0) ≡ true)
+unfolding bit mask allBelow anyBelow atMost start after disagrees allKnown labelTest allKeptSoFar keepsSoFar
+points-so-far = (refl, refl, refl, refl)
+
+-- One slot apart breaks the second where condition 0 is true. Two slots apart breaks the third where decision 1 is true, which is open until
+-- point 2 is performed.
+pub labels-so-far :
+    (keepsSoFarAt waiting-plan (then (first (move 0 1 0) 0) (move 1 2 0)) ≡ true)
+    × (keepsSoFarAt waiting-plan (then (first (move 0 1 0) 1) (move 1 2 0)) ≡ false)
+    × (keepsSoFarAt waiting-plan (then (first (move 0 1 0) 1) (move 2 2 0)) ≡ true)
+    × (keepsSoFarAt waiting-plan (then (then (first (move 0 1 0) 1) (move 2 2 0)) (move 3 4 0)) ≡ true)
+    × (keepsSoFarAt waiting-plan (then (then (first (move 0 1 0) 1) (move 2 2 0)) (move 3 4 2)) ≡ false)
+unfolding bit mask allBelow anyBelow atMost start after disagrees allKnown labelTest allKeptSoFar keepsSoFar
+labels-so-far = (refl, refl, refl, refl, refl)
 
 -- ---- what is heard when (Definition 7)
 

@@ -6,9 +6,11 @@ pub mod MaskLaws
 pub mod SubmaskLaws
 pub mod MachineLaws
 pub mod NetworkLaws
+pub mod LabelTestLaws
 pub mod RaiseLaws
 pub mod GameLaws
 pub mod PathLaws
+pub mod SoFarLaws
 pub mod TreeStrategy
 pub mod StrategyTree
 pub mod SearchLaws

@@ -1,14 +1,18 @@
--- The six theorems on networks, gathered. Read the statements against specs/; the proofs are cited, and only the checker need believe them.
+-- The six theorems on networks and those of card 1, gathered. Read the statements against specs/; the proofs are cited, and only the checker
+-- need believe them.
 use mathlib.Core.Path.{_≡_}
 use mathlib.Core.Logic.{_↔_}
 use mathlib.Core.List.{List}
 use mathlib.Core.Bool.{true, false}
 use Prim.Native.Nat.{ℕ, suc, _*_, _≤_, _<_}
 use Rattle.network.specs.Mask.{bit}
-use Rattle.network.specs.Network.{Constraint, Network, Scenario, Schedule, holds, satisfies, keeps}
+use Rattle.network.specs.Network.{Constraint, Network, Scenario, Schedule, combined, holds, satisfies, keeps}
+use Rattle.network.specs.LabelTest.{Holds, LabelTest}
+use Rattle.network.specs.TestLabel.{labelTest}
 use Rattle.network.specs.IsNetwork.{Each, InNetwork, IsNetwork}
 use Rattle.network.specs.Strategy.{Viable, Dynamic, DynamicallyConsistent}
-use Rattle.network.specs.Game.{State, start, Move, Legal, outcomes, after, Over, Kept}
+use Rattle.network.specs.Game.{State, start, Move, Legal, outcomes, after, Over, kept, Kept}
+use Rattle.network.specs.SoFar.{performedAt, knownAt, keepsSoFarAt}
 use Rattle.network.specs.Tree.{Tree, Sound, Shaped, strategyOf}
 use Rattle.network.specs.Walks.{Wins, SameTree, Follows, AtEnd, stateAfter}
 use Rattle.network.specs.Sizes.{nodes, room}
@@ -17,6 +21,8 @@ use Rattle.network.specs.Search.{firstTree, hopeless}
 use Rattle.network.specs.Policy.{Policy, SucceedsAlways}
 use Rattle.network.specs.Crew.{Step, timesPerformed, slotBySteps, valueBySteps, HeardAlike, ToldAlike}
 use Rattle.network.proofs.NetworkLaws as network
+use Rattle.network.proofs.LabelTestLaws as known
+use Rattle.network.proofs.SoFarLaws as so-far
 use Rattle.network.proofs.TreeStrategy as tree
 use Rattle.network.proofs.FirstLaws as first
 use Rattle.network.proofs.SizeLaws as size
@@ -24,6 +30,11 @@ use Rattle.network.proofs.PolicyLaws as policy
 use Rattle.network.proofs.GameLaws as game
 use Rattle.network.proofs.CrewLaws as crew
 use Rattle.network.proofs.StepsLaws as steps
+
+-- Card 1. The label test by the letters known so far: fails, holds and open exactly where the card says so, never open with all letters of
+-- the label known.
+pub label-test : LabelTest labelTest
+label-test = known.label-test
 
 module _ (net : Network) (wf : IsNetwork net) where
   -- Before the theorems: the label test and `keeps`, in document 01's words. A label holds when each letter in "need" has the value that
@@ -37,6 +48,31 @@ module _ (net : Network) (wf : IsNetwork net) where
       (ψ : Schedule) (s : Scenario) →
       (keeps net ψ s ≡ true) ↔ Each (λ c. holds s (c .label) ≡ true → satisfies ψ c ≡ true) (net .constraints)
   keeps-exactly = network.keeps-is net
+
+  -- Card 1, at a state of the game. The letters known are those whose points are performed. Every constraint is kept so far exactly where
+  -- each one is satisfied whose label holds by the letters known and whose points are performed. A state in which one is not kept so far is
+  -- lost. Where no point is left, what is kept so far is kept.
+  pub performed-exactly : (s : State) (x : ℕ) → (bit (performedAt net s) x ≡ true) ↔ ((x < net .points) × (bit (s .left) x ≡ false))
+  performed-exactly = so-far.performed-exactly net
+
+  pub known-exactly :
+      (s : State) (l : ℕ) → (bit (knownAt net s) l ≡ true) ↔ ((l < net .letters) × (bit (performedAt net s) (net .disclosing l) ≡ true))
+  known-exactly s = so-far.known-exactly net s wf
+
+  pub so-far-at-exactly :
+      (s : State) →
+      (keepsSoFarAt net s ≡ true)
+      ↔ Each
+      (λ c. labelTest (knownAt net s) (combined net (s .heard) (s .decided)) (c .label) ≡ Holds → bit (performedAt net s) (c .from) ≡ true →
+      bit (performedAt net s) (c .to) ≡ true → satisfies (s .slots) c ≡ true)
+      (net .constraints)
+  so-far-at-exactly s = so-far.so-far-exactly net _ _ _ _
+
+  pub broken-lost : (s : State) → keepsSoFarAt net s ≡ false → ¬ CanBeWon net s
+  broken-lost = so-far.broken-lost net wf
+
+  pub over-keeps : (s : State) → Over net s → keepsSoFarAt net s ≡ kept net s
+  over-keeps = so-far.over-keeps net wf
 
   -- Theorem 1. A tree sound in shape describes a dynamic strategy, which is viable exactly where every path of the tree keeps every
   -- constraint whose label holds on it.

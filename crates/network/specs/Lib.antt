@@ -2,11 +2,14 @@
 pub mod Mask
 pub mod Below
 pub mod Network
+pub mod LabelTest
+pub mod TestLabel
 pub mod IsNetwork
 pub mod Fixed
 pub mod Raise
 pub mod Strategy
 pub mod Game
+pub mod SoFar
 pub mod Tree
 pub mod Sizes
 pub mod FirstMoves
