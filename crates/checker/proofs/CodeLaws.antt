@@ -12,7 +12,6 @@ use native.Mathlib.Omega.{arith}
 use borrow.Author.Tests.{lt-leb}
 use lib.ListN.{length}
 use Rattle.network.specs.Mask.{bit, count}
-use Rattle.network.specs.Network.{keeps, slotsIn}
 use Rattle.network.specs.Game.{start, Legal, outcomes, outcomeAt, after}
 use Rattle.network.proofs.Booleans.{eqb-yes, eqb-no}
 use Rattle.plan.specs.declared.Plan.{Plan}
@@ -31,9 +30,10 @@ use Rattle.tree.specs.Nodes.{legalLength, nodeCount}
 use Rattle.tree.specs.Parts.{nodeAt}
 use Rattle.tree.specs.Parts.{fromNode, moveOf}
 use Rattle.game.specs.declared.Position.{Position}
-use Rattle.game.specs.Position.{stateOf, Proper, isLegal}
+use Rattle.game.specs.Position.{stateOf, Proper, isLegal, keepsSoFarIn}
 use Rattle.game.proofs.LegalLaws.{legal-exactly}
-use Rattle.game.proofs.PositionLaws.{inside-is, over-is-zero, kept-is}
+use Rattle.game.proofs.PositionLaws.{inside-is, over-is-zero}
+use Rattle.game.proofs.SoFarLaws.{end-is}
 use Rattle.game.proofs.NextLaws.{next, next-is, next-proper, next-fewer}
 use Rattle.checker.specs.declared.Checked.{Checked}
 use Rattle.checker.specs.declared.Checked.the-variants as checked
@@ -77,11 +77,9 @@ pub record AtNode (p : Plan) (at : Position) (bs : List ℕ) (v : Node) : Type 0
   pub fit : (k : ℕ) (cs : List ℕ) (n : ℕ) (b : Bool) → below p at v k cs ≡ checked.Sound n b → 3 * n ≤ length cs
 
 module _ (p : Plan) (wf : WellFormed p) (at : Position) (ok : Proper p at) (bs : List ℕ) where
-  -- no point is left
-  pub path-ends :
-      at .left ≡ 0 →
-      checked.Sound 0 (keeps (networkOf p) (slotsIn (at .slots)) (bit (at .values))) ≡ subtreeAt p (stateOf p at) bs
-  path-ends e = sym (at-end p (stateOf p at) bs (over-is-zero p wf at ok .0 e) ∙ ap (checked.Sound 0) (sym (kept-is p wf at)))
+  -- no point is left: what is kept so far is kept
+  pub path-ends : at .left ≡ 0 → checked.Sound 0 (keepsSoFarIn p at) ≡ subtreeAt p (stateOf p at) bs
+  path-ends e = sym (at-end p (stateOf p at) bs (over-is-zero p wf at ok .0 e) ∙ ap (checked.Sound 0) (sym (end-is p wf at ok e)))
 
   module _ (some : ¬ (at .left ≡ 0)) where
     goes-on : subtreeAt p (stateOf p at) bs ≡ nodeAndBelow (subtreeAt p) p (stateOf p at) bs

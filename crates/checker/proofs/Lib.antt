@@ -3,6 +3,7 @@ pub mod SubtreeLaws
 pub mod CodeLaws
 pub mod CompleteLaws
 pub mod FoundLaws
+pub mod SoFarLaws
 pub mod FaultLaws
 pub mod CheckerTheorems
 pub mod Cases

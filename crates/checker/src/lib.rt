@@ -17,14 +17,15 @@ pub enum Checked {
     Sound(usize, bool),
 }
 
-// The subtree at the front of the bytes, below a path that stands at this position. With each level fewer points are left.
+// The subtree at the front of the bytes, below a path that stands at this position. With each level fewer points are left. What is kept so far
+// is tested at each node, by the letters known there; the shape is read to its end all the same, since 6 comes before 7.
 pub fn subtree(plan: Plan, nodes: &[u8], at: Position) -> Checked
     requires { ⌜ WellFormed plan × Proper plan at ⌝ }
     ensures { λ r. ⌜ r ≡ subtreeAt plan (stateOf plan at) (now (nodes .entry)) ⌝ }
 {
+    let kept_so_far = game::keeps_so_far(plan, at);
     if at.left == 0 {
-        let slots = at.slots;
-        return Checked::Sound(0, constraints::all_kept(plan, slots, at.values));
+        return Checked::Sound(0, kept_so_far);
     }
     if nodes.len() < 3 {
         return Checked::Unsound;
@@ -48,7 +49,7 @@ pub fn subtree(plan: Plan, nodes: &[u8], at: Position) -> Checked
         kept = kept & b;
         k += 1;
     }
-    Checked::Sound(count, kept)
+    Checked::Sound(count, kept_so_far & kept)
 }
 
 // Whether the bytes are a tree for the plan: fine, or the first of 2, 3, 4 (the plan), 6 (its shape), 7 (a broken constraint).

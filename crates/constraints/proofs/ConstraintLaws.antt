@@ -1,45 +1,22 @@
--- Laws of the label test, of a bound in two's complement, and of all constraints of a plan. Only the checker need believe this file.
-use mathlib.Core.Path.{_≡_, refl, sym, ap, _∙_}
+-- Laws of a bound in two's complement, of one constraint and of all constraints of a plan kept so far. Only the checker need believe this file.
+use mathlib.Core.Path.{_≡_, refl, sym, _∙_}
 use mathlib.Core.Logic.{by-cases}
-use mathlib.Core.Bool.{Bool, true, false, not, _&&_, _||_, xor, Bool·beq, and-true, and-false}
-use Prim.Native.Nat.{ℕ, zero, suc, _+_, _-_, _^_, _≤_, _<_}
+use mathlib.Core.Bool.{Bool, true, false, not, _&&_, _||_}
+use Prim.Native.Nat.{ℕ, zero, suc, _+_, _-_, _≤_, _<_}
 use native.Mathlib.Omega.{arith}
 use native.Mathlib.Decide.{decLt}
-use lib.Dec.{eqb, leb}
-use lib.Bits.{bitAnd, bitXor}
+use lib.Dec.{leb}
 use lib.ListN.{length, List·getD-eq-default}
 use Rattle.network.specs.Mask.{bit, allBelow}
-use Rattle.network.specs.Network.{Scenario, Schedule, holds, satisfies, atMost, projected, feasible, keeps}
-use Rattle.network.proofs.Booleans.{by-test, both-ways, not-false, leb-yes, leb-is, ltb-yes, ltb-no, eqb-yes, eqb-is}
+use Rattle.network.specs.Network.{Scenario, Schedule, satisfies, atMost}
+use Rattle.network.specs.Network as net
+use Rattle.network.specs.TestLabel.{isHolds, labelTest}
+use Rattle.network.specs.SoFar.{keptSoFar, allKeptSoFar, keepsSoFar}
+use Rattle.network.proofs.Booleans.{both-ways, leb-yes, leb-is, ltb-yes, ltb-no}
 use Rattle.network.proofs.BelowLaws.{all-at, all-make, all-first}
-use Rattle.network.proofs.MaskLaws.{bit-zero, bit-above, no-bits}
-use Rattle.network.proofs.MachineLaws.{bit-and, bit-xor}
 use Rattle.plan.specs.declared.Constraint.{Constraint}
 use Rattle.plan.specs.declared.Plan.{Plan}
 use Rattle.plan.specs.Plan.{zeroConstraint, constraintAt, constraintOf, labelOf, signed, listed, networkOf}
-use Rattle.constraints.specs.Constraints.{keepsOne}
-
--- ---- the label test
-
-wrong : (same needed : Bool) → (not same && needed) ≡ not (not needed || same)
-wrong same true = and-true (not same)
-wrong same false = and-false (not same)
-
--- the bits of the machine's test: the needed letters that have the wrong value
-wrong-bits : (v t n l : ℕ) → bit (bitAnd (bitXor v t) n) l ≡ not (not (bit n l) || Bool·beq (bit v l) (bit t l))
-unfolding xor
-wrong-bits v t n l = bit-and (bitXor v t) n l ∙ rw (bit-xor v t l) (wrong (Bool·beq (bit v l) (bit t l)) (bit n l))
-
-pub label-test : (v t n : ℕ) → n < 2 ^ 8 → eqb (bitAnd (bitXor v t) n) 0 ≡ holds (bit v) (record { need = n; truth = t })
-unfolding holds
-label-test v t n h =
-    let f : ℕ → Bool = λ l. not (bit n l) || Bool·beq (bit v l) (bit t l) in
-    let w : ℕ = bitAnd (bitXor v t) n in
-    both-ways (eqb w 0) (allBelow 8 f)
-    (λ e. all-make 8 f (λ l lt. not-false (f l) (sym (wrong-bits v t n l) ∙ ap (λ (x : ℕ). bit x l) (eqb-is w 0 e) ∙ bit-zero l)))
-    (λ a. eqb-yes w 0 (no-bits w (λ l. wrong-bits v t n l ∙ by-cases (decLt l 8)
-    (λ lt. rw (all-at 8 f a l lt))
-    (λ ge. rw (bit-above 8 n l h (omega arith))))))
 
 -- ---- a bound in two's complement
 
@@ -55,41 +32,59 @@ at-most-neg x y b h k =
     (λ e. let q = leb-is (y + 65536) (x + b) e in leb-yes (y + suc (65535 - b)) x (omega arith))
     (λ e. let q = leb-is (y + suc (65535 - b)) x e in leb-yes (y + 65536) (x + b) (omega arith)))
 
--- ---- one constraint, and all of a plan
+-- ---- one constraint
 
--- the label fails, or the constraint is satisfied
-pub keeps-one :
-    (ψ : Schedule) (s : Scenario) (c : Constraint) → keepsOne ψ s c ≡ (not (holds s (labelOf c)) || satisfies ψ (constraintOf c))
-unfolding keepsOne feasible projected
-keeps-one ψ s c =
-    by-test (holds s (labelOf c)) (λ y. rw y (and-true (satisfies ψ (constraintOf c)))) (λ z. rw z)
+module _ (known performed : ℕ) (ψ : Schedule) (s : Scenario) (c : net.Constraint) where
+  abbrev both : Bool
+  both = bit performed (c .from) && bit performed (c .to)
 
-kept-listed :
-    (ψ : Schedule) (s : Scenario) (n : ℕ) (at : ℕ → Constraint) →
-    feasible ψ (projected s (listed n (λ j. constraintOf (at j)))) ≡ allBelow n (λ j. keepsOne ψ s (at j))
-unfolding feasible projected listed allBelow
-kept-listed ψ s zero at = refl
-kept-listed ψ s (suc n) at =
-    let r = kept-listed ψ s n (λ j. at (suc j)) in
-    rw (all-first, keeps-one) (by-test (holds s (labelOf (at zero))) (λ y. rw (y, r)) (λ z. rw (z, r)))
+  -- where the label does not hold yet, or a point is not performed, nothing is asked
+  pub not-held : isHolds (labelTest known s (c .label)) ≡ false → true ≡ keptSoFar known performed ψ s c
+  not-held z = rw z
 
-pub keeps-all :
-    (p : Plan) (ψ : Schedule) (s : Scenario) → keeps (networkOf p) ψ s ≡ allBelow (p .constraints) (λ j. keepsOne ψ s (constraintAt p j))
-unfolding keeps
-keeps-all p ψ s = kept-listed ψ s (p .constraints) (constraintAt p)
+  pub not-performed : both ≡ false → true ≡ keptSoFar known performed ψ s c
+  not-performed z = rw z (sym (never (isHolds (labelTest known s (c .label))) (satisfies ψ c)))
+    where
+      never : (a b : Bool) → (not (a && false) || b) ≡ true
+      never true b = refl
+      never false b = refl
 
--- the zero constraint asks nothing
-zero-kept : (ψ : Schedule) (s : Scenario) → keepsOne ψ s zeroConstraint ≡ true
-unfolding atMost signed
-zero-kept ψ s =
-    rw (keeps-one, leb-yes (ψ 0) (ψ 0 + 0) (omega arith)) (by-test (holds s (labelOf zeroConstraint)) (λ y. rw y) (λ z. rw z))
+  -- else the slots decide
+  pub held-and-performed : isHolds (labelTest known s (c .label)) ≡ true → both ≡ true → satisfies ψ c ≡ keptSoFar known performed ψ s c
+  held-and-performed h d = rw (h, d)
 
--- it stands past the array, so that no more than the array matters
-pub keeps-past :
-    (p : Plan) (ψ : Schedule) (s : Scenario) (j : ℕ) → length (p .constraint) ≤ j →
-    allBelow j (λ i. keepsOne ψ s (constraintAt p i)) ≡ true → keeps (networkOf p) ψ s ≡ true
-keeps-past p ψ s j past kept =
-    keeps-all p ψ s
-    ∙ all-make (p .constraints) (λ i. keepsOne ψ s (constraintAt p i)) (λ i lt. by-cases (decLt i j)
-    (all-at j (λ i. keepsOne ψ s (constraintAt p i)) kept i)
-    (λ ge. rw (List·getD-eq-default (p .constraint) zeroConstraint {n = i} (omega arith)) (zero-kept ψ s)))
+-- ---- all constraints of a plan
+
+module _ (known performed : ℕ) (ψ : Schedule) (s : Scenario) where
+  -- constraint j of a plan
+  abbrev pub keptAt : Plan → ℕ → Bool
+  keptAt p j = keptSoFar known performed ψ s (constraintOf (constraintAt p j))
+
+  pub kept-listed :
+      (n : ℕ) (at : ℕ → Constraint) →
+      allKeptSoFar known performed ψ s (listed n (λ j. constraintOf (at j))) ≡ allBelow n (λ j. keptSoFar known performed ψ s (constraintOf (at j)))
+  unfolding allKeptSoFar listed allBelow
+  kept-listed zero at = refl
+  kept-listed (suc n) at = rw (all-first, kept-listed n (λ j. at (suc j)))
+
+  pub keeps-all : (p : Plan) → keepsSoFar (networkOf p) known performed ψ s ≡ allBelow (p .constraints) (keptAt p)
+  unfolding keepsSoFar
+  keeps-all p = kept-listed (p .constraints) (constraintAt p)
+
+  -- the zero constraint asks nothing
+  zero-kept : keptSoFar known performed ψ s (constraintOf zeroConstraint) ≡ true
+  unfolding atMost signed
+  zero-kept = rw (leb-yes (ψ 0) (ψ 0 + 0) (omega arith)) (or-true (not (isHolds (labelTest known s (labelOf zeroConstraint)) && (bit performed 0 && bit performed 0))))
+    where
+      or-true : (b : Bool) → (b || true) ≡ true
+      or-true true = refl
+      or-true false = refl
+
+  -- it stands past the array, so that no more than the array matters
+  pub keeps-past :
+      (p : Plan) (j : ℕ) → length (p .constraint) ≤ j → allBelow j (keptAt p) ≡ true → keepsSoFar (networkOf p) known performed ψ s ≡ true
+  keeps-past p j past kept =
+      keeps-all p
+      ∙ all-make (p .constraints) (keptAt p) (λ i lt. by-cases (decLt i j)
+      (all-at j (keptAt p) kept i)
+      (λ ge. rw (List·getD-eq-default (p .constraint) zeroConstraint {n = i} (omega arith)) zero-kept))

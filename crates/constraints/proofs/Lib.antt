@@ -1,4 +1,5 @@
 -- Laws: the modules of this folder. Only the checker need believe them.
 pub mod ConstraintLaws
+pub mod LabelLaws
 pub mod RaisingLaws
 pub mod RowLaws

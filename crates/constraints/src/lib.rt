@@ -1,4 +1,5 @@
 // The label test, what it is to keep a constraint, and the raise. What a constraint asks is known to this crate alone.
+pub mod labels;
 pub mod raising;
 pub mod rows;
 
@@ -7,16 +8,9 @@ use plan::Plan;
 ghost use mathlib.Core.Path.{_≡_};
 ghost use lib.ListN.{length, getD};
 ghost use Rattle.network.specs.Mask.{bit};
-ghost use Rattle.network.specs.Network.{holds, atMost, keeps, slotsIn};
-ghost use Rattle.plan.specs.Plan.{labelOf, signed, networkOf};
-ghost use Rattle.constraints.specs.Constraints.{keepsOne};
-
-// Whether the label holds where the letters of the mask `values` are true and the others false.
-fn label_holds(c: Constraint, values: u8) -> bool
-    ensures { λ r. ⌜ r ≡ holds (bit values) (labelOf c) ⌝ }
-{
-    (values ^ c.truth) & c.need == 0
-}
+ghost use Rattle.network.specs.Network.{atMost, slotsIn};
+ghost use Rattle.network.specs.SoFar.{keptSoFar, keepsSoFar};
+ghost use Rattle.plan.specs.Plan.{signed, constraintOf, networkOf};
 
 // Whether y - x is at most the bound, which is in two's complement.
 fn at_most(x: u8, y: u8, bound: u16) -> bool
@@ -47,11 +41,15 @@ pub fn slot_of(slots: [u8; 8], x: u8) -> u8
     slot_in(&slots, x)
 }
 
-// Whether the slots keep one constraint: its label fails, or its points are as far apart as it asks.
-fn constraint_kept(c: Constraint, slots: [u8; 8], values: u8) -> bool
-    ensures { λ r. ⌜ r ≡ keepsOne (slotsIn slots) (bit values) c ⌝ }
+// Whether one constraint is kept so far: its label fails or is open, one of its points is not performed yet, or its points are as far apart
+// as it asks.
+fn kept_so_far(c: Constraint, slots: [u8; 8], values: u8, known: u8, performed: u8) -> bool
+    ensures { λ r. ⌜ r ≡ keptSoFar known performed (slotsIn slots) (bit values) (constraintOf c) ⌝ }
 {
-    if !label_holds(c, values) {
+    if !labels::says_holds(labels::label_test(c.need, c.truth, values, known)) {
+        return true;
+    }
+    if !(masks::has(performed, c.from) & masks::has(performed, c.to)) {
         return true;
     }
     let x = slot_of(slots, c.from);
@@ -59,9 +57,10 @@ fn constraint_kept(c: Constraint, slots: [u8; 8], values: u8) -> bool
     at_most(x, y, c.bound)
 }
 
-// Whether the slots keep every constraint of the plan whose label holds. Past the array stand zero constraints, which are kept.
-pub fn all_kept(plan: Plan, slots: [u8; 8], values: u8) -> bool
-    ensures { λ r. ⌜ r ≡ keeps (networkOf plan) (slotsIn slots) (bit values) ⌝ }
+// Whether every constraint of the plan is kept so far, where the letters of `known` are known, those of them in `values` are true, and the
+// points of `performed` are performed in these slots. Past the array stand zero constraints, which are kept.
+pub fn all_kept_so_far(plan: Plan, slots: [u8; 8], values: u8, known: u8, performed: u8) -> bool
+    ensures { λ r. ⌜ r ≡ keepsSoFar (networkOf plan) known performed (slotsIn slots) (bit values) ⌝ }
 {
     let n = plan.constraints;
     let mut j: u8 = 0;
@@ -70,7 +69,7 @@ pub fn all_kept(plan: Plan, slots: [u8; 8], values: u8) -> bool
             return true;
         }
         let c = plan.constraint[j as usize];
-        if !constraint_kept(c, slots, values) {
+        if !kept_so_far(c, slots, values, known, performed) {
             return false;
         }
         j += 1;

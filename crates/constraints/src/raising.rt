@@ -1,5 +1,6 @@
 // The raise: points are moved to the slots that their constraints ask, round by round until a round changes nothing. Within a round the slots
 // are lent: handed on and back they would be stored byte by byte and loaded as a word for each constraint, which stalls the processor.
+use crate::labels;
 use crate::rows;
 use plan::Constraint;
 ghost use mathlib.Core.Path.{_≡_};
@@ -11,6 +12,9 @@ ghost use Rattle.network.specs.Network.{slotsIn};
 ghost use Rattle.network.specs.Raise.{leastFrom, turn, turns};
 ghost use Rattle.plan.specs.Plan.{signed, constraintOf};
 ghost use Rattle.constraints.specs.Rows.{rowsSay};
+
+// Under a setting all letters are known.
+const ALL_LETTERS: u8 = 255;
 
 // The least slot x with y - x at most the bound, which is in two's complement; 0 where that would be less. Half of the range is added on both
 // sides, so that the sign needs no branch.
@@ -53,7 +57,7 @@ fn take_turn(c: Constraint, slots: &mut [u8; 8], values: u8, cap: u8)
     requires { ⌜ length (now slots) ≡ 8 ⌝ }
     ensures { λ r. ⌜ now (slots .exit) ≡ turn cap (bit values) (now (slots .entry)) (constraintOf c) ⌝ }
 {
-    if !crate::label_holds(c, values) {
+    if !labels::says_holds(labels::label_test(c.need, c.truth, values, ALL_LETTERS)) {
         return;
     }
     let least = least_from(crate::slot_in(slots, c.to), c.bound);

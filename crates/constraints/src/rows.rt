@@ -4,6 +4,9 @@ use plan::Plan;
 ghost use mathlib.Core.Path.{_≡_};
 ghost use Prim.Native.Nat.{_≤_, _<_};
 ghost use lib.ListN.{length};
+ghost use Rattle.network.specs.Mask.{bit};
+ghost use Rattle.network.specs.Network.{slotsIn};
+ghost use Rattle.network.specs.SoFar.{allKeptSoFar};
 ghost use Rattle.plan.specs.Plan.{networkOf};
 ghost use Rattle.constraints.specs.Rows.{rowAt, rowsSay, RowPut};
 
@@ -49,4 +52,26 @@ pub fn rows_of(plan: Plan) -> [u16; 320]
         j += 1;
     }
     rows
+}
+
+// Whether every constraint in the rows is kept so far, where the letters of `known` are known, those of them in `values` are true, and the
+// points of `performed` are performed in these slots.
+pub fn rows_kept_so_far(
+    rows: &[u16; 320],
+    count: u8,
+    slots: [u8; 8],
+    values: u8,
+    known: u8,
+    performed: u8,
+) -> bool
+    ensures { λ r. ⌜ r ≡ allKeptSoFar known performed (slotsIn slots) (bit values) (rowsSay count (now (rows .entry))) ⌝ }
+{
+    let mut k: u8 = 0;
+    while k < count {
+        if !crate::kept_so_far(row_at(rows, k), slots, values, known, performed) {
+            return false;
+        }
+        k += 1;
+    }
+    true
 }

@@ -2,5 +2,6 @@
 pub mod CodeLaws
 pub mod LegalLaws
 pub mod PositionLaws
+pub mod SoFarLaws
 pub mod NextLaws
 pub mod Cases

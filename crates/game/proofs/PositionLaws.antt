@@ -8,20 +8,19 @@ use native.Mathlib.Decide.{decLt}
 use native.Mathlib.Numerals.{add-one}
 use lib.ListN.{length, List·getD-eq-default}
 use Rattle.network.specs.Mask.{bit, mask, count}
-use Rattle.network.specs.Network.{Network, condition, decision, combined, keeps, slotsIn}
-use Rattle.network.specs.Game.{start, hears, settles, Legal, Outcome, after, kept}
+use Rattle.network.specs.Network.{Network, condition, decision, combined, slotsIn}
+use Rattle.network.specs.Game.{start, hears, settles, Legal, Outcome, after}
 use Rattle.network.specs.Search.{over}
 use Rattle.network.proofs.Booleans.{by-test, clash, and-left, and-right, ltb-is}
 use Rattle.network.proofs.BelowLaws.{count-drop}
 use Rattle.network.proofs.MaskLaws.{bit-zero, bit-mask, in-mask, mask-cong, mask-narrow, mask-first, no-bits}
-use Rattle.network.proofs.NetworkLaws.{decision-of, condition-of, one-kind, keeps-cong}
+use Rattle.network.proofs.NetworkLaws.{decision-of, condition-of, one-kind}
 use Rattle.network.proofs.GameLaws.{Inside, heard-condition, heard-point, settled-decision, outcome-outside}
 use Rattle.network.proofs.SearchLaws.{over-is}
 use Rattle.plan.specs.declared.Plan.{Plan}
 use Rattle.plan.specs.Plan.{networkOf}
 use Rattle.plan.specs.WellFormed.{WellFormed}
 use Rattle.plan.proofs.SliceLaws.{all-same}
-use Rattle.plan.proofs.PlanLaws.{network-of-well-formed}
 use Rattle.tree.specs.declared.Node.{Node}
 use Rattle.tree.specs.Parts.{moveOf}
 use Rattle.game.specs.declared.Position.{Position}
@@ -81,10 +80,6 @@ module _ (p : Plan) (wf : WellFormed p) where
       by-test (net .is-decision l)
       (λ y. rw y (sym (bit-mask (p .letters) _ l lt ∙ rw (decision-of net l lt y))))
       (λ z. rw z (sym (bit-mask (p .letters) _ l lt ∙ rw (condition-of net l lt z))))
-
-  pub kept-is : (at : Position) → keeps net (slotsIn (at .slots)) (bit (at .values)) ≡ kept net (stateOf p at)
-  kept-is at =
-      keeps-cong net (network-of-well-formed p wf) (slotsIn (at .slots)) (slotsIn (at .slots)) _ _ (λ x lt. refl) (value-is at)
 
   pub over-is-zero :
       (at : Position) → Proper p at →

@@ -1,6 +1,6 @@
 -- Definitions: a position as the code holds it, the state of the game that it stands for, legal moves as the code tests them. Inner
--- contracts speak of `stateOf` and `Proper`; `start-is` and `after-is` of proofs/PositionLaws.antt tie the rest to the game too. Computed:
--- pinned by `legal-exactly` of game/proofs/LegalLaws.antt.
+-- contracts speak of `stateOf` and `Proper`; `start-is` and `after-is` of proofs/PositionLaws.antt and `so-far-is` of proofs/SoFarLaws.antt
+-- tie the rest to the game too. Computed: pinned by `legal-exactly` of game/proofs/LegalLaws.antt.
 use mathlib.Core.Path.{_≡_}
 use mathlib.Core.Bool.{Bool, true, false, not, cond, _&&_, _||_}
 use mathlib.Core.List.{List}
@@ -10,9 +10,11 @@ use lib.ListN.{getD, replicate}
 use Rattle.network.specs.Mask.{bit, mask}
 use Rattle.network.specs.Network.{condition, decision, slotsIn}
 use Rattle.network.specs.Game.{State, Move}
+use Rattle.network.specs.SoFar.{keepsSoFar}
 use Rattle.masks.specs.Masks.{inside}
 use Rattle.plan.specs.declared.Plan.{Plan}
 use Rattle.plan.specs.Plan.{listed, networkOf}
+use Rattle.plan.specs.Letters.{knownBy}
 use Rattle.plan.specs.Settled.{settledBy}
 use Rattle.tree.specs.declared.Node.{Node}
 use Rattle.game.specs.declared.Position.{Position}
@@ -56,3 +58,12 @@ positionAfter at v o =
       values = mask 8 (λ l. bit (at .values) l || bit (v .choices) l || bit o l);
       slots = slotsAfter (at .slots) (v .points) (v .slot);
     }
+
+-- the points performed: of the first n, those that are not left
+abbrev pub performedOf : ℕ → ℕ → ℕ
+performedOf n left = mask 8 (λ x. ltb x n && not (bit left x))
+
+-- every constraint is kept so far: `keepsSoFarAt` of the state (`so-far-is` of proofs/SoFarLaws.antt)
+abbrev pub keepsSoFarIn : Plan → Position → Bool
+keepsSoFarIn p at =
+    let performed = performedOf (p .points) (at .left) in keepsSoFar (networkOf p) (knownBy p performed) performed (slotsIn (at .slots)) (bit (at .values))

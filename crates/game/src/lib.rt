@@ -1,4 +1,4 @@
-// The game in code: a position, the legal moves, what a move and its outcome lead to.
+// The game in code: a position, the legal moves, what a move and its outcome lead to, what is kept so far.
 use plan::Plan;
 use plan::letters;
 use tree::Node;
@@ -6,7 +6,7 @@ ghost use mathlib.Core.Path.{_≡_};
 ghost use Rattle.network.specs.Mask.{mask};
 ghost use lib.Dec.{ltb};
 ghost use Rattle.tree.specs.Parts.{moveOf};
-ghost use Rattle.game.specs.Position.{stateOf, slotsAfter, isLegal, startPosition, positionAfter};
+ghost use Rattle.game.specs.Position.{stateOf, slotsAfter, isLegal, startPosition, positionAfter, performedOf, keepsSoFarIn};
 
 // Where the game stands on a path: the first slot still open, the points not yet performed, the letters set true, and the slot of each
 // point that is performed.
@@ -76,4 +76,21 @@ pub fn after(at: Position, v: Node, outcome: u8) -> Position
         values: at.values | v.choices | outcome,
         slots: slots_after(slots, v.points, v.slot),
     }
+}
+
+// The points performed: of the first n, those that are not left.
+pub fn performed_points(n: u8, left: u8) -> u8
+    ensures { λ r. ⌜ r ≡ performedOf n left ⌝ }
+{
+    first_points(n) & !left
+}
+
+// Whether every constraint is kept so far at this position. The letters known there are those that the points performed disclose.
+pub fn keeps_so_far(plan: Plan, at: Position) -> bool
+    ensures { λ r. ⌜ r ≡ keepsSoFarIn plan at ⌝ }
+{
+    let slots = at.slots;
+    let performed = performed_points(plan.points, at.left);
+    let known = letters::known(plan, performed);
+    constraints::all_kept_so_far(plan, slots, at.values, known, performed)
 }

@@ -6,7 +6,7 @@ ghost use mathlib.Core.Bool.{_&&_};
 ghost use Prim.Native.Nat.{ℕ, min, _<_};
 ghost use Rattle.network.specs.Mask.{bit, digit, mask};
 ghost use Rattle.plan.specs.Plan.{letterAt, networkOf};
-ghost use Rattle.plan.specs.Letters.{heardBy};
+ghost use Rattle.plan.specs.Letters.{heardBy, knownBy};
 ghost use Rattle.plan.specs.Settled.{ofKind, settledBy};
 
 fn one_if(b: bool) -> u8
@@ -72,4 +72,20 @@ pub fn settled(plan: Plan, points: u8) -> u8
 {
     let letters = plan.letter;
     disclosed_of_kind(letters, plan.letters, true, points)
+}
+
+// The letters of either kind that these points disclose: those known once they are performed.
+pub fn known_of(letters: [Letter; 6], count: u8, points: u8) -> u8
+    ensures { λ r. ⌜ ((p : Plan) → p .letters ≡ count → p .letter ≡ letters → r ≡ knownBy p points) ⌝ }
+{
+    disclosed_of_kind(letters, count, false, points)
+        | disclosed_of_kind(letters, count, true, points)
+}
+
+// The same for a whole plan.
+pub fn known(plan: Plan, points: u8) -> u8
+    ensures { λ r. ⌜ r ≡ knownBy plan points ⌝ }
+{
+    let letters = plan.letter;
+    known_of(letters, plan.letters, points)
 }

@@ -8,7 +8,7 @@ use plan::Plan;
 use plan::letters;
 use tree::Node;
 ghost use mathlib.Core.Path.{_≡_};
-ghost use mathlib.Core.Bool.{true};
+ghost use mathlib.Core.Bool.{true, false};
 ghost use Prim.Native.Nat.{ℕ, _≤_, _<_};
 ghost use lib.ListN.{getD};
 ghost use Rattle.network.specs.Mask.{bit};
@@ -19,7 +19,7 @@ ghost use Rattle.plan.specs.Plan.{networkOf};
 ghost use Rattle.plan.specs.WellFormed.{WellFormed};
 ghost use Rattle.constraints.specs.Rows.{rowsSay};
 ghost use Rattle.tree.specs.Parts.{moveOf};
-ghost use Rattle.game.specs.Position.{stateOf, Proper};
+ghost use Rattle.game.specs.Position.{stateOf, Proper, keepsSoFarIn};
 ghost use Rattle.pruning.specs.Pruning.{outlineOf};
 
 // A plan but for its constraints: 16 bytes, where the whole record would be copied for each state.
@@ -45,7 +45,7 @@ fn are_slots(slots: [u8; 8]) -> bool
     true
 }
 
-// The test of a state, by the outline of the plan and the rows of its constraints.
+// The test of a state by its table, which takes the outline of the plan and the rows of its constraints.
 fn lost_by(rows: &[u16; 320], o: Outline, at: Position) -> bool
     ensures { λ r. ⌜ ((plan : Plan) → outlineOf plan ≡ o → rowsSay (plan .constraints) (now (rows .entry)) ≡ networkOf plan .constraints
         → WellFormed plan → Proper plan at → r ≡ true → ¬ CanBeWon (networkOf plan) (stateOf plan at)) ⌝ }
@@ -58,13 +58,37 @@ fn lost_by(rows: &[u16; 320], o: Outline, at: Position) -> bool
     false
 }
 
+// Whether every constraint is kept so far at a state: `game::keeps_so_far` of the plan, by its outline and the rows.
+fn kept_so_far_by(rows: &[u16; 320], o: Outline, at: Position) -> bool
+    ensures { λ r. ⌜ ((plan : Plan) → outlineOf plan ≡ o → rowsSay (plan .constraints) (now (rows .entry)) ≡ networkOf plan .constraints
+        → r ≡ keepsSoFarIn plan at) ⌝ }
+{
+    let slots = at.slots;
+    let entries = o.letter;
+    let performed = game::performed_points(o.points, at.left);
+    let known = letters::known_of(entries, o.letters, performed);
+    rows::rows_kept_so_far(rows, o.constraints, slots, at.values, known, performed)
+}
+
+// The test of a state: lost where some constraint is not kept so far, since no later move changes that; else as its table says.
+fn lost_at(rows: &[u16; 320], o: Outline, at: Position) -> bool
+    ensures { λ r. ⌜ ((plan : Plan) → outlineOf plan ≡ o → rowsSay (plan .constraints) (now (rows .entry)) ≡ networkOf plan .constraints
+        → (keepsSoFarIn plan at ≡ false → r ≡ true)
+        × (WellFormed plan → Proper plan at → r ≡ true → ¬ CanBeWon (networkOf plan) (stateOf plan at))) ⌝ }
+{
+    if !kept_so_far_by(rows, o, at) {
+        return true; // no table is made
+    }
+    lost_by(rows, o, at)
+}
+
 // The test of a state: of a well-formed plan and a proper position it says lost only where the remaining game cannot be won. Where it does
 // not say so the game is tried.
 pub fn lost(plan: Plan, at: Position) -> bool
     ensures { λ r. ⌜ (WellFormed plan → Proper plan at → r ≡ true → ¬ CanBeWon (networkOf plan) (stateOf plan at)) ⌝ }
 {
     let rows = rows::rows_of(plan);
-    lost_by(&rows, view::outline_of(plan), at)
+    lost_at(&rows, view::outline_of(plan), at)
 }
 
 // Whether the test says lost after some outcome of a legal move: then the move does not win.
@@ -79,7 +103,7 @@ pub fn move_lost(plan: Plan, at: Position, v: Node) -> bool
     let mut k: u16 = 0;
     while k < outcomes {
         let next = game::after(at, v, masks::numbered(heard, k));
-        if lost_by(&rows, o, next) {
+        if lost_at(&rows, o, next) {
             return true;
         }
         k += 1;

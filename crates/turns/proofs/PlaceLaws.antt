@@ -7,7 +7,6 @@ use native.Mathlib.Omega.{arith}
 use borrow.Rule.Slice.PartMut.{putMid}
 use lib.ListN.{length, drop}
 use Rattle.network.specs.Mask.{bit, count}
-use Rattle.network.specs.Network.{keeps, slotsIn}
 use Rattle.network.specs.Game.{State, Legal, outcomes, outcomeAt, after}
 use Rattle.network.specs.FirstMoves.{Winning}
 use Rattle.plan.specs.declared.Plan.{Plan}
@@ -26,8 +25,9 @@ use Rattle.moves.specs.declared.Step.the-variants as step
 use Rattle.moves.specs.Moves.{firstStep, nextStep}
 use Rattle.moves.proofs.OrderLaws.{first-step-is, next-step-is}
 use Rattle.game.specs.declared.Position.{Position}
-use Rattle.game.specs.Position.{stateOf, Proper}
-use Rattle.game.proofs.PositionLaws.{inside-is, over-is-zero, kept-is}
+use Rattle.game.specs.Position.{stateOf, Proper, keepsSoFarIn}
+use Rattle.game.proofs.PositionLaws.{inside-is, over-is-zero}
+use Rattle.game.proofs.SoFarLaws.{end-is}
 use Rattle.game.proofs.NextLaws.{next, next-is}
 use Rattle.turns.specs.declared.Turn.{Turn}
 use Rattle.turns.specs.declared.Turn.the-variants as turn
@@ -63,12 +63,12 @@ module _ (p : Plan) (wf : WellFormed p) (at : Position) (ok : Proper p at) where
 
   module _ (xs : List ℕ) (fits : 3 * most (networkOf p) s ≤ length xs) where
     -- no point is left
-    module _ (end : at .left ≡ 0) (b : Bool) (said : b ≡ keeps (networkOf p) (slotsIn (at .slots)) (bit (at .values))) where
+    module _ (end : at .left ≡ 0) (b : Bool) (said : b ≡ keepsSoFarIn p at) where
       pub ends-won : b ≡ true → AgentAt p at (turn.Won 0) xs xs
-      ends-won y = turns.ends-won (networkOf p) s xs fits (over-is-zero p wf at ok .0 end) (sym (said ∙ kept-is p wf at) ∙ y)
+      ends-won y = turns.ends-won (networkOf p) s xs fits (over-is-zero p wf at ok .0 end) (sym (said ∙ end-is p wf at ok end) ∙ y)
 
       pub ends-lost : b ≡ false → AgentAt p at turn.Lost xs xs
-      ends-lost z = turns.ends-lost (networkOf p) s xs fits (over-is-zero p wf at ok .0 end) (sym (said ∙ kept-is p wf at) ∙ z)
+      ends-lost z = turns.ends-lost (networkOf p) s xs fits (over-is-zero p wf at ok .0 end) (sym (said ∙ end-is p wf at ok end) ∙ z)
 
     pub first-tried :
         (soonest : List ℕ) → WinsTimely p at soonest → (next : Step) → next ≡ firstStep p at soonest → Trying p at soonest xs xs next

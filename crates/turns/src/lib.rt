@@ -27,8 +27,7 @@ pub fn agent(plan: Plan, at: Position, buf: &mut [u8]) -> Turn
     ensures { λ r. ⌜ AgentFinds (networkOf plan) (stateOf plan at) r (now (buf .entry)) (now (buf .exit)) ⌝ }
 {
     if at.left == 0 {
-        let slots = at.slots;
-        if constraints::all_kept(plan, slots, at.values) {
+        if game::keeps_so_far(plan, at) {
             return Turn::Won(0);
         }
         return Turn::Lost;

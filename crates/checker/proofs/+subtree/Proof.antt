@@ -14,10 +14,11 @@ use Rattle.game.proofs.NextLaws.{next}
 use Rattle.checker.specs.declared.Checked.the-variants as checked
 use Rattle.checker.specs.Checker.{withSubtrees, subtreeAt}
 use Rattle.checker.proofs.CodeLaws.{below, AtNode, at-node, path-ends, too-short, not-legal, subtrees-none, subtrees-on, subtrees-stop}
+use Rattle.checker.proofs.SoFarLaws.{kept-so-far}
 use Rattle.checker.proofs.subtree.Reads as subtree
 use Rattle.checker.proofs.subtree.Kinds as kinds
 use Rattle.checker.proofs.+subtree.Lts-subtree as subtree-lts
-use Rattle.constraints.proofs.all_kept.Reads as all-kept-reads
+use Rattle.game.proofs.keeps_so_far.Reads as keeps-so-far-reads
 use Rattle.game.proofs.after.Reads as after-reads
 use Rattle.game.proofs.legal.Reads as legal-reads
 use Rattle.masks.proofs.numbered.Reads as numbered-reads
@@ -39,8 +40,8 @@ fewer-left t = and 1 kinds.ps (falls 1 kinds.ps _<_ left t) subtree.Pre
 
 abbrev calls : ℕ → subtree-lts.Claims
 calls t = (
-  all-kept-reads.Asked,
-  all-kept-reads.Learnt,
+  keeps-so-far-reads.Asked,
+  keeps-so-far-reads.Learnt,
   node-at-reads.Asked,
   node-at-reads.Learnt,
   legal-reads.Asked,
@@ -59,11 +60,11 @@ calls t = (
 
 -- what was found so far: the node and the subtrees of the first k outcomes
 abbrev Inv : subtree-lts.InvT-loop
-Inv plan nodes at v heard outcomes count₀ kept₀ k₀ count kept k =
+Inv plan nodes at so-far v heard outcomes count₀ kept₀ k₀ count kept k =
     (k ≤ outcomes) × (3 * count ≤ length nodes) × (withSubtrees (below plan at v) nodes k ≡ checked.Sound count kept)
 
 abbrev μ : subtree-lts.MeasureT-loop
-μ plan nodes at v heard outcomes count₀ kept₀ k₀ count kept k = outcomes - k
+μ plan nodes at so-far v heard outcomes count₀ kept₀ k₀ count kept k = outcomes - k
 
 -- ---- behind a legal move
 
@@ -71,30 +72,30 @@ long : (t : ℕ) (c : subtree-lts.Start (calls t) (entry t) subtree.Post Inv μ)
 long t c = search needs
 
 here : (t : ℕ) (c : subtree-lts.Else3 (calls t) (entry t) subtree.Post Inv μ) →
-    let a = c .before .before .before .before .before .before .before .args in
+    let a = c .before .before .before .before .before .before .before .before .args in
     AtNode (a .plan) (a .at) (a .nodes .now) (c .before .before .node-at .result)
 here t c =
-    let s = c .before .before .before .before .before .before .before in
+    let s = c .before .before .before .before .before .before .before .before in
     let a = s .args in
     at-node (a .plan) (s .pre .1 .0) (a .at) (s .pre .1 .1) (a .nodes .now)
     (c .before .before .before .before .if1 .left) (long t s) (omega arith) _
     (c .before .before .node-at .ensures) (granted (c .before .legal .ensures) (c .if3 .left))
 
 read : (t : ℕ) (c : subtree-lts.After-submasks (calls t) (entry t) subtree.Post Inv μ) →
-    let a = c .before .before .before .before .before .before .before .before .before .args in
+    let a = c .before .before .before .before .before .before .before .before .before .before .args in
     subtreeAt (a .plan) (stateOf (a .plan) (a .at)) (a .nodes .now)
     ≡ withSubtrees (below (a .plan) (a .at) (c .before .before .before .before .node-at .result)) (a .nodes .now) (c .submasks .result)
 read t c = here t (c .before .before) .read ∙ rw (c .submasks .ensures, c .before .heard .ensures)
 
 -- the position after outcome k, and what is found there
 is-next : (t : ℕ) (c : subtree-lts.After-after (calls t) (entry t) subtree.Post Inv μ) →
-    let a = c .before .before .before .before .before .before .before .before .before .before .before .before .before .args in
+    let a = c .before .before .before .before .before .before .before .before .before .before .before .before .before .before .args in
     let v = c .before .before .before .before .before .before .before .before .node-at .result in
     c .after .result ≡ next (a .plan) (a .at) v (c .before .before .before .loop .k)
 is-next t c = c .after .ensures ∙ rw (c .before .numbered .ensures, c .before .before .before .before .before .heard .ensures) refl
 
 is-child : (t : ℕ) (c : subtree-lts.After-subtree (calls t) (entry t) subtree.Post Inv μ) →
-    let a = c .before .before .before .before .before .before .before .before .before .before .before .before .before .before .before .args in
+    let a = c .before .before .before .before .before .before .before .before .before .before .before .before .before .before .before .before .args in
     let l = c .before .before .before .before .before .loop in
     let v = c .before .before .before .before .before .before .before .before .before .before .node-at .result in
     below (a .plan) (a .at) v (l .k) (drop (3 * l .count) (a .nodes .now)) ≡ c .subtree .result
@@ -102,12 +103,12 @@ is-child t c = sym (c .subtree .ensures ∙ rw (is-next t (c .before .before), r
 
 -- its nodes lie within the bytes
 child-fits : (t : ℕ) (c : subtree-lts.After-known-told (calls t) (entry t) subtree.Post Inv μ) →
-    let a = c .before .before .before .before .before .before .before .before .before .before .before .before .before .before .before .before .before .before .args in
+    let a = c .before .before .before .before .before .before .before .before .before .before .before .before .before .before .before .before .before .before .before .args in
     let l = c .before .before .before .before .before .before .before .before .loop in
     3 * (l .count + c .before .below .given .0 .0) ≤ length (a .nodes .now)
 child-fits t c =
     let l = c .before .before .before .before .before .before .before .before .loop in
-    let a = c .before .before .before .before .before .before .before .before .before .before .before .before .before .before .before .before .before .before .args in
+    let a = c .before .before .before .before .before .before .before .before .before .before .before .before .before .before .before .before .before .before .before .args in
     let e = is-child t (c .before .before .before) ∙ c .before .below .given .1 in
     let f = here t (c .before .before .before .before .before .before .before .before .before .before .before) .fit (l .k) _ _ _ e in
     let d = length-drop (3 * l .count) (a .nodes .now) in
@@ -115,19 +116,19 @@ child-fits t c =
 
 -- ---- the needs
 
-need-all-kept-requires : (t : ℕ) → subtree-lts.Need-all-kept-requires (calls t) (entry t) subtree.Post Inv μ
-need-all-kept-requires t c κs = search needs
+need-keeps-so-far-requires : (t : ℕ) → subtree-lts.Need-keeps-so-far-requires (calls t) (entry t) subtree.Post Inv μ
+need-keeps-so-far-requires t c κs = search needs
 
 need-returns : (t : ℕ) → subtree-lts.Need-returns (calls t) (entry t) subtree.Post Inv μ
 need-returns t c =
-    let s = c .before .before .before .before .before in
+    let s = c .before .before .before .before in
     let a = s .args in
-    ap (checked.Sound 0) (c .all-kept .ensures)
-    ∙ path-ends (a .plan) (s .pre .1 .0) (a .at) (s .pre .1 .1) (a .nodes .now) (c .before .before .if1 .taken)
+    ap (checked.Sound 0) (c .before .before .keeps-so-far .ensures)
+    ∙ path-ends (a .plan) (s .pre .1 .0) (a .at) (s .pre .1 .1) (a .nodes .now) (c .if1 .taken)
 
 need-returns-2 : (t : ℕ) → subtree-lts.Need-returns-2 (calls t) (entry t) subtree.Post Inv μ
 need-returns-2 t c =
-    let s = c .before .before .before .before in
+    let s = c .before .before .before .before .before in
     let a = s .args in
     too-short (a .plan) (s .pre .1 .0) (a .at) (s .pre .1 .1) (a .nodes .now) (c .before .if1 .left) (c .if2 .taken)
 
@@ -139,7 +140,7 @@ need-legal-requires t c κs = search needs
 
 need-returns-3 : (t : ℕ) → subtree-lts.Need-returns-3 (calls t) (entry t) subtree.Post Inv μ
 need-returns-3 t c =
-    let s = c .before .before .before .before .before .before .before in
+    let s = c .before .before .before .before .before .before .before .before in
     let a = s .args in
     not-legal (a .plan) (s .pre .1 .0) (a .at) (s .pre .1 .1) (a .nodes .now) (c .before .before .before .before .if1 .left) _
     (c .before .before .node-at .ensures) (denied (c .before .legal .ensures) (c .if3 .taken))
@@ -160,7 +161,7 @@ need-after-requires : (t : ℕ) → subtree-lts.Need-after-requires (calls t) (e
 need-after-requires t c κs = search needs
 
 need-mul-subtree : (t : ℕ) → subtree-lts.Need-mul-subtree (calls t) (entry t) subtree.Post Inv μ
-need-mul-subtree t c = omega arith
+need-mul-subtree t c = omega (arith, c .before .before .before .before .before .before .before .before .before .before .before .before .before .before .good .1 .0 .0)
 
 need-sub-subtree : (t : ℕ) → subtree-lts.Need-sub-subtree (calls t) (entry t) subtree.Post Inv μ
 need-sub-subtree t c = omega arith
@@ -176,7 +177,7 @@ need-subtree-requires t c κs =
     let n = here t (c .before .before .before .before .before .before .before) in
     let e = is-next t (c .before) in
     let k = c .before .before .before .before .loop .k in
-    let s = c .before .before .before .before .before .before .before .before .before .before .before .before .before .before in
+    let s = c .before .before .before .before .before .before .before .before .before .before .before .before .before .before .before in
     (rw (e, ← s .pre .0) (n .fewer k), (s .pre .1 .0, rw e (n .proper k)))
 
 need-enum-known-below : (t : ℕ) → subtree-lts.Need-enum-known-below (calls t) (entry t) subtree.Post Inv μ
@@ -193,7 +194,7 @@ need-returns-4 t c =
 
 need-add-count : (t : ℕ) → subtree-lts.Need-add-count (calls t) (entry t) subtree.Post Inv μ
 need-add-count t c =
-    let g = c .before .before .before .before .before .before .before .before .before .before .before .before .before .before .before .before .before .before .good in
+    let g = c .before .before .before .before .before .before .before .before .before .before .before .before .before .before .before .before .before .before .before .good in
     omega (arith, child-fits t c, g .1 .0 .0)
 
 need-add-k : (t : ℕ) → subtree-lts.Need-add-k (calls t) (entry t) subtree.Post Inv μ
@@ -213,13 +214,18 @@ need-loop-again t c = (
 need-returns-5 : (t : ℕ) → subtree-lts.Need-returns-5 (calls t) (entry t) subtree.Post Inv μ
 need-returns-5 t c =
     let l = c .before .loop in
+    let s = c .before .before .before .before .before .before .before .before .before .before .before .before in
+    let a = s .args in
     let e : c .before .before .submasks .result ≡ l .k = omega arith in
-    sym (read t (c .before .before) ∙ rw e (l .inv .2))
+    let is : subtreeAt (a .plan) (stateOf (a .plan) (a .at)) (a .nodes .now) ≡ checked.Sound (l .count) (l .kept)
+    = read t (c .before .before) ∙ rw e (l .inv .2) in
+    let same = kept-so-far (a .plan) (s .pre .1 .0) (a .at) (s .pre .1 .1) (a .nodes .now) (l .count) (l .kept) is in
+    sym (is ∙ ap (checked.Sound (l .count)) (sym (rw (c .before .before .before .before .before .before .before .before .before .before .keeps-so-far .ensures) same)))
 
 pub +subtree-spec : {M : Type 1} → statement M
 +subtree-spec =
     close left λ t. subtree-lts.spec (calls t) (entry t) subtree.Post Inv μ
-    (need-all-kept-requires t)
+    (need-keeps-so-far-requires t)
     (need-returns t)
     (need-returns-2 t)
     (need-node-at-requires t)

@@ -60,15 +60,15 @@ numbered-requires c κs = search needs
 after-requires : tie.Need-after-requires Inv-loop μ-loop
 after-requires c κs = search needs
 
-lost-by-requires : tie.Need-lost-by-requires Inv-loop μ-loop
-lost-by-requires c κs = search needs
+lost-at-requires : tie.Need-lost-at-requires Inv-loop μ-loop
+lost-at-requires c κs = search needs
 
 returns : tie.Need-returns Inv-loop μ-loop
 returns c =
     let s = c .before .before .before .before .before .before .before .before .before .before .before in
     let a = s .args in
     let k = c .before .before .before .before .before .before .loop .k in
-    let test = c .before .lost-by in
+    let test = c .before .lost-at in
     let said = c .before .before .before .before .before .before .before .before .before .before .rows-of .ensures in
     let outline = c .before .before .before .before .before .before .before .before .before .outline-of .ensures in
     let yes : test .result ≡ true = c .if1 .taken in
@@ -76,7 +76,7 @@ returns c =
     let proper : Proper (a .plan) (c .before .before .before .after .result)
     = rw (is-next (c .before .before .before)) (next-proper (a .plan) wf (a .at) ok (a .v) lg k) in
     let gone : ¬ CanBeWon (networkOf (a .plan)) (stateOf (a .plan) (c .before .before .before .after .result))
-    = test .ensures (a .plan) (sym outline) (said (wf .head .constraints)) wf proper yes in
+    = test .ensures (a .plan) (sym outline) (said (wf .head .constraints)) .1 wf proper yes in
     move-wins-nothing (a .plan) wf (a .at) ok (long s) (a .v) lg k (rw (is-next (c .before .before .before)) at gone)
 
 add-k : tie.Need-add-k Inv-loop μ-loop
@@ -104,7 +104,7 @@ move-lost-spec =
     loop-holds
     numbered-requires
     after-requires
-    lost-by-requires
+    lost-at-requires
     returns
     add-k
     loop-less

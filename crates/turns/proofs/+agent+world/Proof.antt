@@ -29,7 +29,7 @@ use Rattle.turns.proofs.+agent+world.Lts-agent as agent-lts
 use Rattle.turns.proofs.world.Reads as world
 use Rattle.turns.proofs.world.Kinds as world-kinds
 use Rattle.turns.proofs.+agent+world.Lts-world as world-lts
-use Rattle.constraints.proofs.all_kept.Reads as all-kept-reads
+use Rattle.game.proofs.keeps_so_far.Reads as keeps-so-far-reads
 use Rattle.game.proofs.after.Reads as after-reads
 use Rattle.masks.proofs.numbered.Reads as numbered-reads
 use Rattle.masks.proofs.submasks.Reads as submasks-reads
@@ -63,8 +63,8 @@ world-below t = and 1 world-kinds.ps (falls 1 world-kinds.ps _<_ μ-world t) wor
 
 abbrev agent-calls : ℕ → agent-lts.Claims
 agent-calls t = (
-  all-kept-reads.Asked,
-  all-kept-reads.Learnt,
+  keeps-so-far-reads.Asked,
+  keeps-so-far-reads.Learnt,
   soonest-reads.Asked,
   soonest-reads.Learnt,
   first-move-reads.Asked,
@@ -149,24 +149,24 @@ agent-won t c =
     let said : WorldAt (a .plan) (a .at) v (w .result) (rest 3 (l .buf)) (w .last .1 .1 .1 .0) = w .ensures in
     subst (λ (r : Turn). WorldAt (a .plan) (a .at) v r (rest 3 (l .buf)) (w .last .1 .1 .1 .0)) (c .before .below .given .1) said
 
-agent-all-kept-requires : (t : ℕ) → agent-lts.Need-all-kept-requires (agent-calls t) (agent-at t) agent.Post agent-Inv-loop agent-μ-loop
-agent-all-kept-requires t c κs = search needs
+agent-keeps-so-far-requires : (t : ℕ) → agent-lts.Need-keeps-so-far-requires (agent-calls t) (agent-at t) agent.Post agent-Inv-loop agent-μ-loop
+agent-keeps-so-far-requires t c κs = search needs
 
 agent-returns : (t : ℕ) → agent-lts.Need-returns (agent-calls t) (agent-at t) agent.Post agent-Inv-loop agent-μ-loop
 agent-returns t c =
-    let s = c .before .before .before .before .before .before in
+    let s = c .before .before .before .before .before in
     let a = s .args in
-    let said : c .before .all-kept .result ≡ true = c .if2 .taken in
+    let said : c .before .keeps-so-far .result ≡ true = c .if2 .taken in
     at-place.ends-won (a .plan) (s .pre .1 .0) (a .at) (s .pre .1 .1) (a .buf .now) (s .pre .1 .2)
-    (c .before .before .before .if1 .taken) _ (c .before .all-kept .ensures) said
+    (c .before .before .if1 .taken) _ (c .before .keeps-so-far .ensures) said
 
 agent-returns-2 : (t : ℕ) → agent-lts.Need-returns-2 (agent-calls t) (agent-at t) agent.Post agent-Inv-loop agent-μ-loop
 agent-returns-2 t c =
-    let s = c .before .before .before .before .before .before in
+    let s = c .before .before .before .before .before in
     let a = s .args in
-    let said : c .before .all-kept .result ≡ false = c .if2 .left in
+    let said : c .before .keeps-so-far .result ≡ false = c .if2 .left in
     at-place.ends-lost (a .plan) (s .pre .1 .0) (a .at) (s .pre .1 .1) (a .buf .now) (s .pre .1 .2)
-    (c .before .before .before .if1 .taken) _ (c .before .all-kept .ensures) said
+    (c .before .before .if1 .taken) _ (c .before .keeps-so-far .ensures) said
 
 agent-soonest-requires : (t : ℕ) → agent-lts.Need-soonest-requires (agent-calls t) (agent-at t) agent.Post agent-Inv-loop agent-μ-loop
 agent-soonest-requires t c κs = search needs
@@ -476,7 +476,7 @@ pub +agent+world-spec : {M : Type 1} → statement M
     agent.Post
     agent-Inv-loop
     agent-μ-loop
-    (agent-all-kept-requires t)
+    (agent-keeps-so-far-requires t)
     (agent-returns t)
     (agent-returns-2 t)
     (agent-soonest-requires t)

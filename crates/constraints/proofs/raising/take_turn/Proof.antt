@@ -1,21 +1,33 @@
 -- `take_turn`: what is called says it, where the label fails and where it holds. Only the checker need believe this file.
-use mathlib.Core.Path.{sym, _∙_}
+use mathlib.Core.Path.{_≡_, sym, ap, _∙_}
+use Rattle.network.specs.Network.{holds}
+use Rattle.network.specs.TestLabel.{isHolds}
 use borrow.Author.Needs.{needs}
 use Rattle.network.specs.Mask.{bit}
 use Rattle.network.proofs.Booleans.{not-true, not-false}
-use Rattle.plan.specs.Plan.{constraintOf}
+use Rattle.plan.specs.Plan.{labelOf, constraintOf}
 use Rattle.constraints.proofs.RaisingLaws.{no-turn, own-turn}
+use Rattle.constraints.proofs.LabelLaws.{all-letters}
 use Rattle.constraints.proofs.raising.take_turn.Statement.{statement}
 use Rattle.constraints.proofs.raising.take_turn.Tie as tie
 
-label-holds-requires : tie.Need-label-holds-requires
-label-holds-requires c κs = search needs
+label-test-requires : tie.Need-label-test-requires
+label-test-requires c κs = search needs
+
+says-holds-requires : tie.Need-says-holds-requires
+says-holds-requires c κs = search needs
+
+-- what is said is whether the label holds: under a setting all letters are known
+said : (c : tie.After-says-holds) → c .says-holds .result ≡ holds (bit (c .before .before .args .values)) (labelOf (c .before .before .args .c))
+said c =
+    let a = c .before .before .args in
+    c .says-holds .ensures ∙ ap isHolds (c .before .label-test .ensures) ∙ all-letters (bit (a .values)) (labelOf (a .c))
 
 returns : tie.Need-returns
 returns c =
-    let a = c .before .before .args in
-    let fails = not-true (c .before .label-holds .result) (c .if1 .taken) in
-    no-turn (a .cap) (bit (a .values)) (a .slots .now) (constraintOf (a .c)) (sym (c .before .label-holds .ensures) ∙ fails)
+    let a = c .before .before .before .args in
+    let fails = not-true (c .before .says-holds .result) (c .if1 .taken) in
+    no-turn (a .cap) (bit (a .values)) (a .slots .now) (constraintOf (a .c)) (sym (said (c .before)) ∙ fails)
 
 slot-in-requires : tie.Need-slot-in-requires
 slot-in-requires c κs = search needs
@@ -31,10 +43,10 @@ no-earlier-requires c κs = search needs
 
 returns-2 : tie.Need-returns-2
 returns-2 c =
-    let a = c .before .before .before .before .before .before .before .before .args in
-    let label = c .before .before .before .before .before .before .before .label-holds in
-    let held = not-false (label .result) (c .before .before .before .before .before .before .if1 .left) in
-    rw (← own-turn (a .cap) (bit (a .values)) (a .slots .now) (constraintOf (a .c)) (sym (label .ensures) ∙ held))
+    let a = c .before .before .before .before .before .before .before .before .before .args in
+    let label = c .before .before .before .before .before .before .before in
+    let held = not-false (label .says-holds .result) (c .before .before .before .before .before .before .if1 .left) in
+    rw (← own-turn (a .cap) (bit (a .values)) (a .slots .now) (constraintOf (a .c)) (sym (said label) ∙ held))
     (rw (
       ← c .before .before .before .before .slot-in .ensures,
       ← c .before .before .before .least-from .ensures,
@@ -45,7 +57,8 @@ pub take-turn-spec : {M : Type 1} → statement M
 take-turn-spec =
     tie.close
     (tie.spec
-    label-holds-requires
+    label-test-requires
+    says-holds-requires
     returns
     slot-in-requires
     least-from-requires
