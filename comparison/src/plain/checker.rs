@@ -1,6 +1,5 @@
 //! The checker of trees: yes, 6 or 7.
 
-use super::constraints::all_kept;
 use super::game::Position;
 use super::judge::judge;
 use super::masks::outcomes;
@@ -16,14 +15,15 @@ pub struct Sound {
 
 /// The subtree at the front of the bytes, below a path that stands at this position; none where it is not sound.
 pub fn subtree(plan: &Plan, nodes: &[u8], at: &Position) -> Option<Sound> {
+    let so_far = at.keeps_so_far(plan);
     if at.left == 0 {
-        return Some(Sound { nodes: 0, kept: all_kept(plan, &at.slots, at.values) });
+        return Some(Sound { nodes: 0, kept: so_far });
     }
     let v = Node::front(nodes)?;
     if !at.is_legal(plan, v) {
         return None;
     }
-    let mut found = Sound { nodes: 1, kept: true };
+    let mut found = Sound { nodes: 1, kept: so_far };
     for outcome in outcomes(plan.heard(v.points)) {
         let below = subtree(plan, &nodes[NODE_BYTES * found.nodes..], &at.after(v, outcome))?;
         found.nodes += below.nodes;

@@ -1,26 +1,46 @@
 //! The label test, what it is to keep a constraint, and the raise: points moved to the slots that constraints ask.
 
+use super::masks::has;
 use super::plan::{Constraint, Plan};
 
 /// The slot of each point.
 pub type Slots = [u8; 8];
 
-impl Constraint {
-    /// Whether the label holds where the letters of the mask `values` are true and the others false.
-    pub fn label_holds(&self, values: u8) -> bool {
-        (values ^ self.truth) & self.need == 0
-    }
+/// Under a setting all letters are known.
+const ALL_LETTERS: u8 = 255;
 
-    /// Whether the slots keep the constraint: its label fails, or its points are as far apart as it asks.
-    pub fn kept(&self, slots: &Slots, values: u8) -> bool {
-        !self.label_holds(values)
+/// What the letters known so far say of a label.
+#[derive(Clone, Copy, PartialEq, Eq, Debug)]
+pub enum Tested {
+    Holds,
+    Fails,
+    Open,
+}
+
+/// The label test, where the letters of `known` are known: those of `values` are true, the others false.
+pub fn label_test(need: u8, truth: u8, values: u8, known: u8) -> Tested {
+    if (values ^ truth) & need & known != 0 {
+        return Tested::Fails;
+    }
+    if need & !known != 0 {
+        return Tested::Open;
+    }
+    Tested::Holds
+}
+
+impl Constraint {
+    /// Whether the constraint is kept so far: its label fails or is open, one of its points is not performed yet, or they
+    /// are as far apart as it asks.
+    fn kept_so_far(&self, slots: &Slots, values: u8, known: u8, done: u8) -> bool {
+        label_test(self.need, self.truth, values, known) != Tested::Holds
+            || !(has(done, self.from) && has(done, self.to))
             || i16::from(slots[self.to as usize]) - i16::from(slots[self.from as usize]) <= self.bound
     }
 
     /// Moves `from` to the slot that is asked if it stands earlier, and to the cap at most. Where the label does not hold
     /// nothing is asked.
     fn take_turn(&self, slots: &mut Slots, values: u8, cap: u8) {
-        if !self.label_holds(values) {
+        if label_test(self.need, self.truth, values, ALL_LETTERS) != Tested::Holds {
             return;
         }
         let asked = (i16::from(slots[self.to as usize]) - self.bound).clamp(0, i16::from(cap)) as u8;
@@ -29,9 +49,10 @@ impl Constraint {
     }
 }
 
-/// Whether the slots keep every constraint of the plan whose label holds.
-pub fn all_kept(plan: &Plan, slots: &Slots, values: u8) -> bool {
-    plan.used_constraints().iter().all(|c| c.kept(slots, values))
+/// Whether no constraint of the plan is broken so far, where the letters of `known` are known, those of them in `values`
+/// are true, and the points of `done` are performed in these slots.
+pub fn all_kept_so_far(plan: &Plan, slots: &Slots, values: u8, known: u8, done: u8) -> bool {
+    plan.used_constraints().iter().all(|c| c.kept_so_far(slots, values, known, done))
 }
 
 /// One round of the raise: each constraint takes its turn.

@@ -1,6 +1,6 @@
-//! The game: a position, the test of a move, what a move and its outcome lead to.
+//! The game: a position, the test of a move, what a move and its outcome lead to, whether something is broken so far.
 
-use super::constraints::Slots;
+use super::constraints::{all_kept_so_far, Slots};
 use super::masks::{first, has, subset};
 use super::plan::Plan;
 use super::tree::Node;
@@ -43,5 +43,11 @@ impl Position {
     pub fn after(&self, v: Node, outcome: u8) -> Position {
         let slots = slots_after(self.slots, v.points, v.slot);
         Position { earliest: v.slot + 1, left: self.left & !v.points, values: self.values | v.choices | outcome, slots }
+    }
+
+    /// Whether nothing is broken so far, by the points performed and the letters that they disclose.
+    pub fn keeps_so_far(&self, plan: &Plan) -> bool {
+        let done = first(plan.points) & !self.left;
+        all_kept_so_far(plan, &self.slots, self.values, plan.known(done), done)
     }
 }

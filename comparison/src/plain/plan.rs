@@ -112,6 +112,11 @@ impl Plan {
     pub fn settled(&self, points: u8) -> u8 {
         self.disclosed(points, DECISION)
     }
+
+    /// The letters of either kind that these points disclose: those known once they are performed.
+    pub fn known(&self, points: u8) -> u8 {
+        self.heard(points) | self.settled(points)
+    }
 }
 
 impl Constraint {

@@ -31,9 +31,10 @@ fn view<'a>(plan: &'a Plan, at: &Position) -> View<'a> {
     }
 }
 
-/// Says lost only where the remaining game cannot be won. Where it does not say so the game is tried.
+/// Says lost only where the remaining game cannot be won: where something is broken so far, or by the table. Where it does
+/// not say so the game is tried.
 pub fn lost(plan: &Plan, at: &Position) -> bool {
-    view(plan, at).hopeless()
+    !at.keeps_so_far(plan) || view(plan, at).hopeless()
 }
 
 /// Whether the test says lost after some outcome of a legal move: then the move does not win.

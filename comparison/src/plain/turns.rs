@@ -1,7 +1,6 @@
 //! The two turns of the game: the agent tries moves, the world tries outcomes. They call each other until no point is
 //! left, and write the tree of first moves on the way.
 
-use super::constraints::all_kept;
 use super::game::Position;
 use super::masks::outcomes;
 use super::moves::timely_moves;
@@ -14,7 +13,7 @@ use super::tree::{Node, NODE_BYTES};
 /// game cannot be won.
 pub fn agent(plan: &Plan, at: &Position, buf: &mut [u8]) -> Option<usize> {
     if at.left == 0 {
-        return all_kept(plan, &at.slots, at.values).then_some(0);
+        return at.keeps_so_far(plan).then_some(0);
     }
     for v in timely_moves(plan, at, soonest(plan, at)) {
         if let Some(below) = world(plan, at, v, &mut buf[NODE_BYTES..]) {
