@@ -1,4 +1,4 @@
-//! What must be believed, on two pages: every name is followed from the statements, and nothing else is to be believed.
+//! What must be believed, on three pages: every name is followed from the statements, and nothing else is to be believed.
 //!
 //! `antt` takes a file of definitions apart, `scope` says which names a declaration mentions, `definitions` what a name
 //! means in its file, `code` finds the code's types, `reach` follows the names, `page` writes what was found, and
@@ -20,7 +20,8 @@ use std::path::Path;
 /// The pages, in the order in which they are read, and how long each may be.
 pub const PAGE: &str = "docs/BELIEVED.md";
 pub const CALLS: &str = "docs/BELIEVED-CALLS.md";
-pub const PAGES: [&str; 2] = [PAGE, CALLS];
+pub const CARDS: &str = "docs/BELIEVED-CARDS.md";
+pub const PAGES: [&str; 3] = [PAGE, CALLS, CARDS];
 pub const MOST_LINES: usize = 800;
 
 /// A statement: its page, its title there, its word in headers, and its roots: crate, file and name of each.
@@ -32,7 +33,7 @@ pub struct Statement<'a> {
 }
 
 /// The statements, in the order of the documents.
-pub const STATEMENTS: [Statement; 6] = [
+pub const STATEMENTS: [Statement; 7] = [
     Statement { page: CALLS, title: "Demand 1", word: "demand 1", roots: &[("demands", "Demand1", "Demand1")] },
     Statement { page: PAGE, title: "Demand 2", word: "demand 2", roots: &[("demands", "Demand2", "Demand2")] },
     Statement { page: PAGE, title: "Demand 3", word: "demand 3", roots: &[("demands", "Demand3", "Demand3")] },
@@ -60,6 +61,17 @@ pub const STATEMENTS: [Statement; 6] = [
         title: "The library",
         word: "the library",
         roots: &[("tureenlark", "LibraryDemands", "LibraryDemands")],
+    },
+    // what a card asks for of which no demand speaks
+    Statement {
+        page: CARDS,
+        title: "Card 1: labels that are still open",
+        word: "card 1",
+        roots: &[
+            ("network", "LabelTest", "LabelTest"),
+            ("constraints", "Labels", "label"),
+            ("constraints", "Labels", "testedAs"),
+        ],
     },
 ];
 

@@ -1,6 +1,6 @@
 //! What must be believed, in planted repositories: what is reached, what is shown, and each fault.
 
-use gate::believed::{Believed, Statement, CALLS, PAGE};
+use gate::believed::{Believed, Statement, CALLS, PAGE, PAGES};
 use std::fs;
 use std::path::{Path, PathBuf};
 use std::sync::atomic::{AtomicUsize, Ordering};
@@ -158,7 +158,7 @@ fn nothing_is_wrong_at_first() {
 #[test]
 fn definitions_stand_before_their_users_with_their_comments() {
     let planted = Planted::new();
-    let page = planted.text(PAGE) + &planted.text(CALLS);
+    let page = PAGES.map(|page| planted.text(page)).concat();
     let at = |words: &str| page.find(words).unwrap_or_else(|| panic!("{words} is not on the page:\n{page}"));
     let order = [
         "## Demand 1",

@@ -2,18 +2,18 @@
 
 use super::definitions::{Definitions, Source};
 use super::reach::Reached;
-use super::{Statement, CALLS, PAGE, PAGES};
+use super::{Statement, CALLS, CARDS, PAGE, PAGES};
 use std::collections::{BTreeMap, BTreeSet};
 
 const TOP: &str = "\
 # What must be believed
 
-To believe what the theorems say, read this page and docs/BELIEVED-CALLS.md, and nothing else: each statement with every
-definition that it needs, cut from the files, definitions before their users. A definition stands where it is needed first.
-This page has what the planner is for: demand 2, the texts and the checker, and demand 3, the search and the crew's run.
-What is on neither page is pinned by theorems, or used by proofs and inner contracts alone; the first lines of each file of
-`crates/*/specs` say which. `gate believed --write` makes the pages, `tests/believed` fails where they are not as the files
-are.
+To believe what the theorems say, read this page, docs/BELIEVED-CALLS.md and docs/BELIEVED-CARDS.md, and nothing else: each
+statement with every definition that it needs, cut from the files, definitions before their users. A definition stands where
+it is needed first. This page has what the planner is for: demand 2, the texts and the checker, and demand 3, the search and
+the crew's run. What is on none of the pages is pinned by theorems, or used by proofs and inner contracts alone; the first
+lines of each file of `crates/*/specs` say which. `gate believed --write` makes the pages, `tests/believed` fails where they
+are not as the files are.
 ";
 
 const TOP_OF_CALLS: &str = "\
@@ -22,6 +22,13 @@ const TOP_OF_CALLS: &str = "\
 The second page, behind docs/BELIEVED.md, whose definitions are not repeated: what each call answers and leaves in the bytes
 lent to it (demand 1), the verdict and the screen, how answers of the code are read of which only contracts speak, and the
 exported calls.
+";
+
+const TOP_OF_CARDS: &str = "\
+# What must be believed of the change requests
+
+The third page, behind docs/BELIEVED.md and docs/BELIEVED-CALLS.md, whose definitions are not repeated: what the cards of
+document 02 ask for of which no demand speaks, and what the code's answers mean there. docs/cards has a note on each card.
 ";
 
 /// A file's part of a page.
@@ -71,8 +78,12 @@ fn page(definitions: &Definitions, file: &str, statements: &[(&Statement, &Reach
         "| statement | lines | with what it needs from above |\n|---|---|---|\n{}\n| all | {total} | |\n",
         rows.join("\n")
     );
-    let top = if file == PAGE { TOP } else { TOP_OF_CALLS };
-    let library = if file == CALLS { library(&shown.library) } else { String::new() };
+    let top = match file {
+        PAGE => TOP,
+        CALLS => TOP_OF_CALLS,
+        _ => TOP_OF_CARDS,
+    };
+    let library = if file == CARDS { library(&shown.library) } else { String::new() };
     format!("{top}\n{table}{text}{library}")
 }
 
