@@ -28,11 +28,11 @@ pub fn subtree(plan: Plan, nodes: &[u8], at: Position) -> Checked
         return Checked::Sound(0, kept_so_far);
     }
     if nodes.len() < 3 {
-        return Checked::Unsound;
+        return Checked::Unsound; // a node is missing
     }
     let v = tree::node_at(nodes, 0);
     if !game::legal(plan, at, v) {
-        return Checked::Unsound;
+        return Checked::Unsound; // the move breaks a rule
     }
     let heard = letters::heard(plan, v.points);
     let outcomes = masks::submasks(heard);
