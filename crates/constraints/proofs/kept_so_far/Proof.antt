@@ -1,12 +1,12 @@
--- `kept_so_far`: what is called says it. Only the checker need believe this file.
+-- `kept_so_far`: what is called says it, where the label does not hold, where a point is left, and else. Only the checker need believe this file.
 use mathlib.Core.Path.{_≡_, ap, _∙_}
-use borrow.Author.Needs.{needs}
-use Rattle.network.proofs.Booleans.{denied, granted}
-use Rattle.network.specs.Mask.{bit}
-use Rattle.network.specs.TestLabel.{isHolds, labelTest}
-use Rattle.plan.specs.Plan.{labelOf, constraintOf}
-use Rattle.network.specs.Network.{slotsIn}
 use mathlib.Core.Bool.{Bool, _&&_}
+use borrow.Author.Needs.{needs}
+use Rattle.network.specs.Mask.{bit}
+use Rattle.network.specs.Network.{slotsIn}
+use Rattle.network.specs.TestLabel.{isHolds, labelTest}
+use Rattle.network.proofs.Booleans.{denied, granted}
+use Rattle.plan.specs.Plan.{labelOf, constraintOf}
 use Rattle.constraints.proofs.ConstraintLaws.{not-held, not-performed, held-and-performed}
 use Rattle.constraints.proofs.kept_so_far.Statement.{statement}
 use Rattle.constraints.proofs.kept_so_far.Tie as tie
@@ -21,7 +21,9 @@ abbrev bool-and : Bool → Bool → Bool
 bool-and a b = a && b
 
 -- what is said of the label
-said : (c : tie.After-says-holds) → c .says-holds .result ≡ isHolds (labelTest (c .before .before .args .known) (bit (c .before .before .args .values)) (labelOf (c .before .before .args .c)))
+said : (c : tie.After-says-holds) →
+    let a = c .before .before .args in
+    c .says-holds .result ≡ isHolds (labelTest (a .known) (bit (a .values)) (labelOf (a .c)))
 said c = c .says-holds .ensures ∙ ap isHolds (c .before .label-test .ensures)
 
 returns : tie.Need-returns
@@ -36,7 +38,9 @@ has-requires-2 : tie.Need-has-requires-2
 has-requires-2 c κs = search needs
 
 -- both points are performed, or not
-both : (c : tie.After-has2) → bool-and (c .before .has .result) (c .has2 .result) ≡ bool-and (bit (c .before .before .before .before .before .args .performed) (c .before .before .before .before .before .args .c .from)) (bit (c .before .before .before .before .before .args .performed) (c .before .before .before .before .before .args .c .to))
+both : (c : tie.After-has2) →
+    let a = c .before .before .before .before .before .args in
+    bool-and (c .before .has .result) (c .has2 .result) ≡ bool-and (bit (a .performed) (a .c .from)) (bit (a .performed) (a .c .to))
 both c = rw (c .before .has .ensures, c .has2 .ensures)
 
 returns-2 : tie.Need-returns-2

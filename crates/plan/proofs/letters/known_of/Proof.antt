@@ -2,15 +2,13 @@
 use mathlib.Core.Path.{_≡_, refl, _∙_}
 use mathlib.Core.Bool.{Bool, true, false, not, _&&_, _||_}
 use Prim.Native.Nat.{ℕ}
-use native.Mathlib.Omega.{arith}
 use borrow.Author.Needs.{needs}
 use lib.Dec.{ltb}
-use lib.Bits.{bitOr}
+use lib.Bits.{bitOr, or-lt}
 use Rattle.network.specs.Mask.{bit}
-use Rattle.network.proofs.MaskLaws.{bits-ext, bit-mask, bit-mask-above}
+use Rattle.network.specs.Network.{Network, conditionAt, decisionAt}
+use Rattle.network.proofs.MaskLaws.{bit-mask, mask-lt, mask-is}
 use Rattle.network.proofs.MachineLaws.{bit-or}
-use mathlib.Core.Logic.{by-cases}
-use native.Mathlib.Decide.{decLt}
 use Rattle.plan.specs.declared.Plan.{Plan}
 use Rattle.plan.specs.Plan.{networkOf}
 use Rattle.plan.specs.Letters.{heardBy, knownBy}
@@ -33,9 +31,12 @@ either false chosen here = refl
 
 joined : (p : Plan) (points : ℕ) → bitOr (heardBy p points) (settledBy p points) ≡ knownBy p points
 joined p points =
-    bits-ext _ _ (λ l. bit-or (heardBy p points) (settledBy p points) l ∙ by-cases (decLt l 6)
-    (λ lt. rw (bit-mask 6 _ l lt, bit-mask 6 _ l lt, bit-mask 6 _ l lt) (either (ltb l (p .letters)) (networkOf p .is-decision l) (bit points (networkOf p .disclosing l))))
-    (λ ge. rw (bit-mask-above 6 _ l (omega arith), bit-mask-above 6 _ l (omega arith), bit-mask-above 6 _ l (omega arith))))
+    let net : Network = networkOf p in
+    mask-is 6 (bitOr (heardBy p points) (settledBy p points)) _
+    (or-lt 6 (heardBy p points) (settledBy p points) (mask-lt 6 (conditionAt net points)) (mask-lt 6 (decisionAt net points)))
+    (λ l lt. bit-or (heardBy p points) (settledBy p points) l
+    ∙ rw (bit-mask 6 (conditionAt net points) l lt, bit-mask 6 (decisionAt net points) l lt)
+    (either (ltb l (p .letters)) (net .is-decision l) (bit points (net .disclosing l))))
 
 returns : tie.Need-returns
 returns c p few same =
