@@ -31,9 +31,9 @@ pub fn label_test(need: u8, truth: u8, values: u8, known: u8) -> Tested {
 impl Constraint {
     /// Whether the constraint is kept so far: its label fails or is open, one of its points is not performed yet, or they
     /// are as far apart as it asks.
-    fn kept_so_far(&self, slots: &Slots, values: u8, known: u8, done: u8) -> bool {
+    fn kept_so_far(&self, slots: &Slots, values: u8, known: u8, performed: u8) -> bool {
         label_test(self.need, self.truth, values, known) != Tested::Holds
-            || !(has(done, self.from) && has(done, self.to))
+            || !(has(performed, self.from) && has(performed, self.to))
             || i16::from(slots[self.to as usize]) - i16::from(slots[self.from as usize]) <= self.bound
     }
 
@@ -50,9 +50,9 @@ impl Constraint {
 }
 
 /// Whether no constraint of the plan is broken so far, where the letters of `known` are known, those of them in `values`
-/// are true, and the points of `done` are performed in these slots.
-pub fn all_kept_so_far(plan: &Plan, slots: &Slots, values: u8, known: u8, done: u8) -> bool {
-    plan.used_constraints().iter().all(|c| c.kept_so_far(slots, values, known, done))
+/// are true, and the points of `performed` are performed in these slots.
+pub fn all_kept_so_far(plan: &Plan, slots: &Slots, values: u8, known: u8, performed: u8) -> bool {
+    plan.used_constraints().iter().all(|c| c.kept_so_far(slots, values, known, performed))
 }
 
 /// One round of the raise: each constraint takes its turn.

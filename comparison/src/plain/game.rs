@@ -47,7 +47,7 @@ impl Position {
 
     /// Whether nothing is broken so far, by the points performed and the letters that they disclose.
     pub fn keeps_so_far(&self, plan: &Plan) -> bool {
-        let done = first(plan.points) & !self.left;
-        all_kept_so_far(plan, &self.slots, self.values, plan.known(done), done)
+        let performed = first(plan.points) & !self.left;
+        all_kept_so_far(plan, &self.slots, self.values, plan.known(performed), performed)
     }
 }

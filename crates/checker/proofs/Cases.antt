@@ -7,7 +7,9 @@ use lib.ListN.{replicate}
 use Rattle.network.specs.Mask.{bit, mask, count, allBelow, submask}
 use Rattle.network.specs.Below.{anyBelow}
 use Rattle.network.specs.Network.{holds, projected, atMost, feasible, keeps}
+use Rattle.network.specs.TestLabel.{disagrees, allKnown, labelTest}
 use Rattle.network.specs.Game.{start, after}
+use Rattle.network.specs.SoFar.{allKeptSoFar, keepsSoFar}
 use Rattle.network.specs.Search.{over}
 use Rattle.plan.specs.declared.Plan.{Plan}
 use Rattle.plan.specs.declared.Constraint.{Constraint}
@@ -110,7 +112,8 @@ unfolding bit mask count allBelow anyBelow submask holds projected atMost feasib
 order = (refl, refl, refl, refl, refl, refl)
 
 -- ---- something broken at an inner node (card 1): three points, point 1 at least 1 after point 0, both performed by the first node. The shape
--- decides first: a point again, a node missing, a node too many; then 7. One slot apart the tree is accepted.
+-- decides first: a point again, a node missing, a node too many; then 7. One slot apart the tree is accepted. (What is kept so far is unfolded
+-- too, so that a definition that ends a path there computes otherwise: checker/seven_at_inner_node.)
 
 abbrev apart : Plan
 apart = plan 3 3 [] (constraint 1 0 65535 0 0 ∷ [])
@@ -119,5 +122,5 @@ pub broken-inside :
     (checkFault apart (0 ∷ 3 ∷ 0 ∷ 1 ∷ 1 ∷ 0 ∷ []) ≡ 6) × (checkFault apart (0 ∷ 3 ∷ 0 ∷ []) ≡ 6)
     × (checkFault apart (0 ∷ 3 ∷ 0 ∷ 1 ∷ 4 ∷ 0 ∷ 2 ∷ 4 ∷ 0 ∷ []) ≡ 6) × (checkFault apart (0 ∷ 3 ∷ 0 ∷ 1 ∷ 4 ∷ 0 ∷ []) ≡ 7)
     × (checkFault apart (0 ∷ 1 ∷ 0 ∷ 1 ∷ 6 ∷ 0 ∷ []) ≡ 0)
-unfolding bit mask count allBelow anyBelow submask holds projected atMost feasible keeps start after over unless first signed listed headFine takenBefore letterFine letterUnused letterEntry lettersFine boundFine constraintFine constraintUnused constraintEntry constraintsFine planFault legalLength isLegal withSubtrees nodeAndBelow subtreeIn treeFault checkFault
+unfolding bit mask count allBelow anyBelow submask holds projected atMost feasible keeps start after over unless first signed listed headFine takenBefore letterFine letterUnused letterEntry lettersFine boundFine constraintFine constraintUnused constraintEntry constraintsFine planFault legalLength isLegal withSubtrees nodeAndBelow subtreeIn treeFault checkFault disagrees allKnown labelTest allKeptSoFar keepsSoFar
 broken-inside = (refl, refl, refl, refl, refl)

@@ -1,5 +1,5 @@
--- Laws: where every path below keeps its constraints they are kept so far, so that a constraint broken at an inner node changes only whether
--- the paths are kept. Only the checker need believe this file.
+-- Laws: where every path below keeps its constraints they are kept so far, so that what is kept so far changes no answer. Only the checker
+-- need believe this file.
 use mathlib.Core.Path.{_≡_, sym, ap, _∙_}
 use mathlib.Core.Bool.{Bool, _&&_, and-false}
 use mathlib.Core.List.{List}

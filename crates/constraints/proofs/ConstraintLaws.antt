@@ -1,7 +1,7 @@
 -- Laws of a bound in two's complement, of one constraint and of all constraints of a plan kept so far. Only the checker need believe this file.
 use mathlib.Core.Path.{_≡_, refl, sym, _∙_}
 use mathlib.Core.Logic.{by-cases}
-use mathlib.Core.Bool.{Bool, true, false, not, _&&_, _||_}
+use mathlib.Core.Bool.{Bool, true, false, not, _&&_, _||_, or-true}
 use Prim.Native.Nat.{ℕ, zero, suc, _+_, _-_, _≤_, _<_}
 use native.Mathlib.Omega.{arith}
 use native.Mathlib.Decide.{decLt}
@@ -75,10 +75,6 @@ module _ (known performed : ℕ) (ψ : Schedule) (s : Scenario) where
   zero-kept : keptSoFar known performed ψ s (constraintOf zeroConstraint) ≡ true
   unfolding atMost signed
   zero-kept = rw (leb-yes (ψ 0) (ψ 0 + 0) (omega arith)) (or-true (not (isHolds (labelTest known s (labelOf zeroConstraint)) && (bit performed 0 && bit performed 0))))
-    where
-      or-true : (b : Bool) → (b || true) ≡ true
-      or-true true = refl
-      or-true false = refl
 
   -- it stands past the array, so that no more than the array matters
   pub keeps-past :

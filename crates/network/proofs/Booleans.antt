@@ -58,17 +58,17 @@ both-ways false false f g = refl
 
 -- ---- the test whether two Booleans are the same
 
-pub same-is : (a b : Bool) → Bool·beq a b ≡ true → a ≡ b
-same-is true true e = refl
-same-is true false e = sym e
-same-is false true e = e
-same-is false false e = refl
+pub beq-is : (a b : Bool) → Bool·beq a b ≡ true → a ≡ b
+beq-is true true e = refl
+beq-is true false e = sym e
+beq-is false true e = e
+beq-is false false e = refl
 
-pub same-yes : (a b : Bool) → a ≡ b → Bool·beq a b ≡ true
-same-yes true true e = refl
-same-yes true false e = sym e
-same-yes false true e = e
-same-yes false false e = refl
+pub beq-yes : (a b : Bool) → a ≡ b → Bool·beq a b ≡ true
+beq-yes true true e = refl
+beq-yes true false e = sym e
+beq-yes false true e = e
+beq-yes false false e = refl
 
 -- ---- tests of numbers
 

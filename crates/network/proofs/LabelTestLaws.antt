@@ -8,7 +8,7 @@ use Rattle.network.specs.Mask.{bit}
 use Rattle.network.specs.Network.{Label, Scenario, holds}
 use Rattle.network.specs.LabelTest.{Tested, Holds, Fails, Open, Disagrees, AllKnown, AllAgree, LabelTest}
 use Rattle.network.specs.TestLabel.{disagreesAt, disagrees, allKnown, labelTest, isHolds}
-use Rattle.network.proofs.Booleans.{by-test, clash, not-true, and-left, and-right, both-ways, same-is, same-yes, false-exactly}
+use Rattle.network.proofs.Booleans.{by-test, clash, not-true, and-left, and-right, both-ways, beq-is, beq-yes, false-exactly}
 use Rattle.network.proofs.BelowLaws.{all-at, all-make, any-at, any-make, any-cong}
 use Rattle.network.proofs.NetworkLaws.{agree-exactly}
 
@@ -52,9 +52,9 @@ module _ (known : ℕ) (s : Scenario) (label : Label) where
         let l = a .0 in
         let k = and-right (bit (label .need) l) _ (a .2) in
         let differ = not-true (Bool·beq (s l) (bit (label .truth) l)) (and-right (bit known l) _ k) in
-        (l, a .1, and-left (bit (label .need) l) _ (a .2), and-left (bit known l) _ k, λ e. clash (same-yes _ _ e) differ),
+        (l, a .1, and-left (bit (label .need) l) _ (a .2), and-left (bit known l) _ k, λ e. clash (beq-yes _ _ e) differ),
     λ d. any-make 8 (disagreesAt known s label) (d .0) (d .1) (rw (d .2, d .3)
-        (by-test (Bool·beq (s (d .0)) (bit (label .truth) (d .0))) (λ y. absurd (d .4 (same-is _ _ y))) (λ z. rw z))),
+        (by-test (Bool·beq (s (d .0)) (bit (label .truth) (d .0))) (λ y. absurd (d .4 (beq-is _ _ y))) (λ z. rw z))),
   )
 
   all-known-exactly : (allKnown known label ≡ true) ↔ AllKnown known label
@@ -68,8 +68,8 @@ module _ (known : ℕ) (s : Scenario) (label : Label) where
   none-disagrees : AllKnown known label → (disagrees known s label ≡ false) ↔ (holds s label ≡ true)
   none-disagrees k = (
     λ z. agree-exactly s label .1 (λ l lt n. by-test (Bool·beq (s l) (bit (label .truth) l))
-        (λ y. same-is _ _ y)
-        (λ d. absurd (false-exactly disagrees-exactly .0 z (l, lt, n, k l lt n, λ e. clash (same-yes _ _ e) d)))),
+        (λ y. beq-is _ _ y)
+        (λ d. absurd (false-exactly disagrees-exactly .0 z (l, lt, n, k l lt n, λ e. clash (beq-yes _ _ e) d)))),
     λ y. false-exactly disagrees-exactly .1 (λ d. d .4 (agree-exactly s label .0 y (d .0) (d .1) (d .2))),
   )
 

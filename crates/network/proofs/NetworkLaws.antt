@@ -10,16 +10,16 @@ use Rattle.network.specs.Mask.{bit}
 use Rattle.network.specs.Network.{Label, Constraint, Network, Scenario, Schedule, condition, decision, combined, holds, projected, satisfies, feasible, keeps}
 use Rattle.network.specs.LabelTest.{AllAgree}
 use Rattle.network.specs.IsNetwork.{Each, InNetwork, IsNetwork}
-use Rattle.network.proofs.Booleans.{by-test, clash, not-true, and-left, and-right, and-make, same-is, same-yes, ltb-yes, ltb-is}
+use Rattle.network.proofs.Booleans.{by-test, clash, not-true, and-left, and-right, and-make, beq-is, beq-yes, ltb-yes, ltb-is}
 use Rattle.network.proofs.BelowLaws.{all-at, all-make, all-cong}
 
 -- a label holds exactly where each letter that it needs has the value shown
 pub agree-exactly : (s : Scenario) (label : Label) → (holds s label ≡ true) ↔ AllAgree s label
 unfolding holds
 agree-exactly s label = (
-  λ t l lt y. same-is (s l) (bit (label .truth) l) (rw y at (all-at 8 _ t l lt)),
+  λ t l lt y. beq-is (s l) (bit (label .truth) l) (rw y at (all-at 8 _ t l lt)),
   λ h. all-make 8 _ (λ l lt. by-test (bit (label .need) l)
-      (λ y. rw y (same-yes (s l) (bit (label .truth) l) (h l lt y)))
+      (λ y. rw y (beq-yes (s l) (bit (label .truth) l) (h l lt y)))
       (λ z. rw z)),
 )
 

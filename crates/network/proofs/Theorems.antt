@@ -21,7 +21,7 @@ use Rattle.network.specs.Search.{firstTree, hopeless}
 use Rattle.network.specs.Policy.{Policy, SucceedsAlways}
 use Rattle.network.specs.Crew.{Step, timesPerformed, slotBySteps, valueBySteps, HeardAlike, ToldAlike}
 use Rattle.network.proofs.NetworkLaws as network
-use Rattle.network.proofs.LabelTestLaws as known
+use Rattle.network.proofs.LabelTestLaws as label
 use Rattle.network.proofs.SoFarLaws as so-far
 use Rattle.network.proofs.TreeStrategy as tree
 use Rattle.network.proofs.FirstLaws as first
@@ -34,7 +34,7 @@ use Rattle.network.proofs.StepsLaws as steps
 -- Card 1. The label test by the letters known so far: fails, holds and open exactly where the card says so, never open with all letters of
 -- the label known.
 pub label-test : LabelTest labelTest
-label-test = known.label-test
+label-test = label.label-test
 
 module _ (net : Network) (wf : IsNetwork net) where
   -- Before the theorems: the label test and `keeps`, in document 01's words. A label holds when each letter in "need" has the value that

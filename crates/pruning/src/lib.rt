@@ -45,7 +45,7 @@ fn are_slots(slots: [u8; 8]) -> bool
     true
 }
 
-// The test of a state by its table, which takes the outline of the plan and the rows of its constraints.
+// Whether the table of a state says lost. It takes the outline of the plan and the rows of its constraints.
 fn lost_by(rows: &[u16; 320], o: Outline, at: Position) -> bool
     ensures { λ r. ⌜ ((plan : Plan) → outlineOf plan ≡ o → rowsSay (plan .constraints) (now (rows .entry)) ≡ networkOf plan .constraints
         → WellFormed plan → Proper plan at → r ≡ true → ¬ CanBeWon (networkOf plan) (stateOf plan at)) ⌝ }
@@ -70,7 +70,8 @@ fn kept_so_far_by(rows: &[u16; 320], o: Outline, at: Position) -> bool
     rows::rows_kept_so_far(rows, o.constraints, slots, at.values, known, performed)
 }
 
-// The test of a state: lost where some constraint is not kept so far, since no later move changes that; else as its table says.
+// The test of a state, by outline and rows: lost where some constraint is not kept so far, since no later move changes that; else as its
+// table says.
 fn lost_at(rows: &[u16; 320], o: Outline, at: Position) -> bool
     ensures { λ r. ⌜ ((plan : Plan) → outlineOf plan ≡ o → rowsSay (plan .constraints) (now (rows .entry)) ≡ networkOf plan .constraints
         → (keepsSoFarIn plan at ≡ false → r ≡ true)

@@ -28,7 +28,8 @@ const TOP_OF_CARDS: &str = "\
 # What must be believed of the change requests
 
 The third page, behind docs/BELIEVED.md and docs/BELIEVED-CALLS.md, whose definitions are not repeated: what the cards of
-document 02 ask for of which no demand speaks, and what the code's answers mean there. docs/cards has a note on each card.
+document 02 ask for of which no demand speaks, and what the code's answers mean there. docs/cards has a note on each card. At
+the end stands what the three pages use of the toolchain's library.
 ";
 
 /// A file's part of a page.

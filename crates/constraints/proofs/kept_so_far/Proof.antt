@@ -1,6 +1,6 @@
 -- `kept_so_far`: what is called says it, where the label does not hold, where a point is left, and else. Only the checker need believe this file.
 use mathlib.Core.Path.{_≡_, ap, _∙_}
-use mathlib.Core.Bool.{Bool, _&&_}
+use mathlib.Core.Bool.{_&&_}
 use borrow.Author.Needs.{needs}
 use Rattle.network.specs.Mask.{bit}
 use Rattle.network.specs.Network.{slotsIn}
@@ -16,9 +16,6 @@ label-test-requires c κs = search needs
 
 says-holds-requires : tie.Need-says-holds-requires
 says-holds-requires c κs = search needs
-
-abbrev bool-and : Bool → Bool → Bool
-bool-and a b = a && b
 
 -- what is said of the label
 said : (c : tie.After-says-holds) →
@@ -40,7 +37,7 @@ has-requires-2 c κs = search needs
 -- both points are performed, or not
 both : (c : tie.After-has2) →
     let a = c .before .before .before .before .before .args in
-    bool-and (c .before .has .result) (c .has2 .result) ≡ bool-and (bit (a .performed) (a .c .from)) (bit (a .performed) (a .c .to))
+    (c .before .has .result && c .has2 .result) ≡ (bit (a .performed) (a .c .from) && bit (a .performed) (a .c .to))
 both c = rw (c .before .has .ensures, c .has2 .ensures)
 
 returns-2 : tie.Need-returns-2
