@@ -21,6 +21,20 @@ use Rattle.tree.specs.Nodes.{legalLength}
 use Rattle.game.specs.Position.{isLegal}
 use Rattle.checker.specs.Checker.{withSubtrees, nodeAndBelow, subtreeIn, treeFault, checkFault}
 
+-- ---- something broken at an inner node (card 1): three points, point 1 at least 1 after point 0, both performed by the first node. The shape
+-- decides first: a point again, a node missing, a node too many; then 7. One slot apart the tree is accepted. (What is kept so far is unfolded
+-- too, so that a definition that ends a path there computes otherwise: checker/seven_at_inner_node.)
+
+abbrev apart : Plan
+apart = plan 3 3 [] (constraint 1 0 65535 0 0 ∷ [])
+
+pub broken-inside :
+    (checkFault apart (0 ∷ 3 ∷ 0 ∷ 1 ∷ 1 ∷ 0 ∷ []) ≡ 6) × (checkFault apart (0 ∷ 3 ∷ 0 ∷ []) ≡ 6)
+    × (checkFault apart (0 ∷ 3 ∷ 0 ∷ 1 ∷ 4 ∷ 0 ∷ 2 ∷ 4 ∷ 0 ∷ []) ≡ 6) × (checkFault apart (0 ∷ 3 ∷ 0 ∷ 1 ∷ 4 ∷ 0 ∷ []) ≡ 7)
+    × (checkFault apart (0 ∷ 1 ∷ 0 ∷ 1 ∷ 6 ∷ 0 ∷ []) ≡ 0)
+unfolding bit mask count allBelow anyBelow submask holds projected atMost feasible keeps start after over unless first signed listed headFine takenBefore letterFine letterUnused letterEntry lettersFine boundFine constraintFine constraintUnused constraintEntry constraintsFine planFault legalLength isLegal withSubtrees nodeAndBelow subtreeIn treeFault checkFault disagrees allKnown labelTest allKeptSoFar keepsSoFar
+broken-inside = (refl, refl, refl, refl, refl)
+
 -- ---- K4 and its trees
 
 abbrev pub k4-tree : List ℕ
@@ -110,17 +124,3 @@ pub order :
     × (checkFault k4 (k11-tree ++ (1 ∷ 2 ∷ 0 ∷ [])) ≡ 6)
 unfolding bit mask count allBelow anyBelow submask holds projected atMost feasible keeps start after over unless first signed listed headFine takenBefore letterFine letterUnused letterEntry lettersFine boundFine constraintFine constraintUnused constraintEntry constraintsFine planFault legalLength isLegal withSubtrees nodeAndBelow subtreeIn treeFault checkFault
 order = (refl, refl, refl, refl, refl, refl)
-
--- ---- something broken at an inner node (card 1): three points, point 1 at least 1 after point 0, both performed by the first node. The shape
--- decides first: a point again, a node missing, a node too many; then 7. One slot apart the tree is accepted. (What is kept so far is unfolded
--- too, so that a definition that ends a path there computes otherwise: checker/seven_at_inner_node.)
-
-abbrev apart : Plan
-apart = plan 3 3 [] (constraint 1 0 65535 0 0 ∷ [])
-
-pub broken-inside :
-    (checkFault apart (0 ∷ 3 ∷ 0 ∷ 1 ∷ 1 ∷ 0 ∷ []) ≡ 6) × (checkFault apart (0 ∷ 3 ∷ 0 ∷ []) ≡ 6)
-    × (checkFault apart (0 ∷ 3 ∷ 0 ∷ 1 ∷ 4 ∷ 0 ∷ 2 ∷ 4 ∷ 0 ∷ []) ≡ 6) × (checkFault apart (0 ∷ 3 ∷ 0 ∷ 1 ∷ 4 ∷ 0 ∷ []) ≡ 7)
-    × (checkFault apart (0 ∷ 1 ∷ 0 ∷ 1 ∷ 6 ∷ 0 ∷ []) ≡ 0)
-unfolding bit mask count allBelow anyBelow submask holds projected atMost feasible keeps start after over unless first signed listed headFine takenBefore letterFine letterUnused letterEntry lettersFine boundFine constraintFine constraintUnused constraintEntry constraintsFine planFault legalLength isLegal withSubtrees nodeAndBelow subtreeIn treeFault checkFault disagrees allKnown labelTest allKeptSoFar keepsSoFar
-broken-inside = (refl, refl, refl, refl, refl)
