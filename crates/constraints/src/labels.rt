@@ -4,6 +4,9 @@ ghost use Rattle.network.specs.Mask.{bit};
 ghost use Rattle.network.specs.TestLabel.{labelTest, isHolds};
 ghost use Rattle.constraints.specs.Labels.{label, testedAs};
 
+// Under a setting all letters are known.
+pub const ALL_LETTERS: u8 = 255;
+
 // What the letters known so far say of a label (card 1's terms): it holds, it fails, or it is open.
 pub enum Tested {
     Holds,

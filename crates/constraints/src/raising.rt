@@ -13,9 +13,6 @@ ghost use Rattle.network.specs.Raise.{leastFrom, turn, turns};
 ghost use Rattle.plan.specs.Plan.{signed, constraintOf};
 ghost use Rattle.constraints.specs.Rows.{rowsSay};
 
-// Under a setting all letters are known.
-const ALL_LETTERS: u8 = 255;
-
 // The least slot x with y - x at most the bound, which is in two's complement; 0 where that would be less. Half of the range is added on both
 // sides, so that the sign needs no branch.
 fn least_from(y: u8, bound: u16) -> u32
@@ -57,7 +54,7 @@ fn take_turn(c: Constraint, slots: &mut [u8; 8], values: u8, cap: u8)
     requires { ⌜ length (now slots) ≡ 8 ⌝ }
     ensures { λ r. ⌜ now (slots .exit) ≡ turn cap (bit values) (now (slots .entry)) (constraintOf c) ⌝ }
 {
-    if !labels::says_holds(labels::label_test(c.need, c.truth, values, ALL_LETTERS)) {
+    if !labels::says_holds(labels::label_test(c.need, c.truth, values, labels::ALL_LETTERS)) {
         return;
     }
     let least = least_from(crate::slot_in(slots, c.to), c.bound);

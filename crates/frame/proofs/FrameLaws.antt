@@ -14,6 +14,7 @@ use Rattle.network.proofs.Booleans.{and-left, and-right, and-make, ltb-yes, ltb
 use Rattle.network.proofs.BelowLaws.{all-at, all-make, all-cong}
 use Rattle.plan.specs.Plan.{listed}
 use Rattle.plan.proofs.PlanLaws.{listed-same}
+use Rattle.plan.proofs.SliceLaws.{length-listed}
 use Rattle.frame.specs.Hex.{hexDigit}
 use Rattle.frame.specs.ReadFrame.{digitOf, pairOf, frameLength, byteAt, valueAt, whole}
 use Rattle.frame.specs.Frame.{Bytes, frameText, Begins}
@@ -166,11 +167,6 @@ whole-said kind n s h e =
 
 -- ---- whole exactly
 
-listed-length : (n : ℕ) (f : ℕ → ℕ) → length (listed n f) ≡ n
-unfolding listed
-listed-length zero f = refl
-listed-length (suc n) f = ap suc (listed-length n (λ k. f (suc k)))
-
 listed-bytes : (n : ℕ) (f : ℕ → ℕ) → ((k : ℕ) → f k < 256) → Bytes (listed n f)
 unfolding listed
 listed-bytes zero f h = λ k. lit< tt
@@ -182,7 +178,7 @@ whole-exactly kind n s lt = (
   λ e. (
     listed n (λ k. valueAt s (suc k)),
     drop (frameLength (suc n)) s,
-    listed-length n (λ k. valueAt s (suc k)),
+    length-listed n (λ k. valueAt s (suc k)),
     listed-bytes n (λ k. valueAt s (suc k)) (λ k. omega arith),
     whole-said kind n s lt e,
   ),

@@ -1,10 +1,10 @@
 -- Laws of what the code computes: the first points as a mask, an array of slots filled from the front. Only the checker need believe this
 -- file.
-use mathlib.Core.Path.{_≡_, refl, sym, ap, _∙_}
+use mathlib.Core.Path.{_≡_, refl, sym, _∙_}
 use mathlib.Core.Logic.{by-cases}
 use mathlib.Core.Bool.{true}
 use mathlib.Core.List.{List}
-use Prim.Native.Nat.{ℕ, zero, suc, _+_, _-_, _*_, _%_, _^_, _≤_, _<_}
+use Prim.Native.Nat.{ℕ, _+_, _-_, _*_, _%_, _^_, _≤_, _<_}
 use native.Mathlib.Omega.{arith}
 use native.Mathlib.Decide.{decLt}
 use lib.Dec.{ltb}
@@ -34,18 +34,6 @@ first-points n h =
     record { some = omega arith; is = rw e (sym (mask-first n 8 (omega arith) ∙ mask-full n)) }
 
 -- ---- an array filled from the front
-
--- `listed`: how many entries, and each
-pub length-listed : {A : Type 0} (n : ℕ) (f : ℕ → A) → length (listed n f) ≡ n
-unfolding listed
-length-listed zero f = refl
-length-listed (suc n) f = ap suc (length-listed n (λ i. f (suc i)))
-
-pub get-listed : {A : Type 0} (d : A) (n : ℕ) (f : ℕ → A) (i : ℕ) → i < n → getD (listed n f) i d ≡ f i
-unfolding listed
-get-listed d zero f i h = absurd (omega arith)
-get-listed d (suc n) f zero h = refl
-get-listed d (suc n) f (suc i) h = get-listed d n (λ i. f (suc i)) i (omega arith)
 
 -- the entries before x are those of f, the others as they were
 pub record Filled (n : ℕ) (f : ℕ → ℕ) (old : List ℕ) (x : ℕ) (now : List ℕ) : Type 0 where

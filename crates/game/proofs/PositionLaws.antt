@@ -20,12 +20,11 @@ use Rattle.network.proofs.SearchLaws.{over-is}
 use Rattle.plan.specs.declared.Plan.{Plan}
 use Rattle.plan.specs.Plan.{networkOf}
 use Rattle.plan.specs.WellFormed.{WellFormed}
-use Rattle.plan.proofs.SliceLaws.{all-same}
+use Rattle.plan.proofs.SliceLaws.{all-same, length-listed, get-listed}
 use Rattle.tree.specs.declared.Node.{Node}
 use Rattle.tree.specs.Parts.{moveOf}
 use Rattle.game.specs.declared.Position.{Position}
 use Rattle.game.specs.Position.{stateOf, Proper, startPosition, positionAfter}
-use Rattle.game.proofs.CodeLaws.{length-listed, get-listed}
 
 -- no letter is set true where none is
 none-set : (n : ℕ) (f : ℕ → Bool) → mask n (λ l. f l && bit 0 l) ≡ 0

@@ -8,6 +8,7 @@ pub mod MachineLaws
 pub mod NetworkLaws
 pub mod LabelTestLaws
 pub mod RaiseLaws
+pub mod LimitLaws
 pub mod GameLaws
 pub mod PathLaws
 pub mod SoFarLaws

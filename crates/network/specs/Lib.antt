@@ -7,6 +7,8 @@ pub mod TestLabel
 pub mod IsNetwork
 pub mod Fixed
 pub mod Raise
+pub mod Differences
+pub mod Limits
 pub mod Strategy
 pub mod Game
 pub mod SoFar

@@ -14,7 +14,7 @@ listed-same zero f g h = refl
 listed-same (suc n) f g h =
     rw (h zero (omega arith), listed-same n (λ i. f (suc i)) (λ i. g (suc i)) (λ i lt. h (suc i) (omega arith))) refl
 
-each-listed : {A : Type 0} (P : A → Type 0) (n : ℕ) (f : ℕ → A) → ((j : ℕ) → j < n → P (f j)) → Each P (listed n f)
+pub each-listed : {A : Type 0} (P : A → Type 0) (n : ℕ) (f : ℕ → A) → ((j : ℕ) → j < n → P (f j)) → Each P (listed n f)
 unfolding Each listed
 each-listed P zero f h = tt
 each-listed P (suc n) f h = (h zero (omega arith), each-listed P n (λ i. f (suc i)) (λ j lt. h (suc j) (omega arith)))

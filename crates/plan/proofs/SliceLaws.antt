@@ -1,13 +1,15 @@
 -- Laws of slices and arrays: the part of a slice that starts somewhere, an array of one value, an array filled from the front. Only the
 -- checker need believe this file.
-use mathlib.Core.Path.{_≡_, sym, ap, _∙_}
+use mathlib.Core.Path.{_≡_, refl, sym, ap, _∙_}
 use mathlib.Core.Logic.{by-cases}
-use mathlib.Core.List.{List, [], _∷_, _++_, append-assoc}
-use Prim.Native.Nat.{ℕ, suc, _+_, _-_, _<_}
+use mathlib.Core.List.{List, [], _∷_, _++_, append-assoc, append-nil}
+use Prim.Native.Nat.{ℕ, zero, suc, _+_, _-_, _<_}
 use native.Mathlib.Omega.{arith}
 use native.Mathlib.Decide.{decLt}
+use native.Mathlib.Numerals.{add-one}
 use lib.ListN.{length, getD, take, drop, set, replicate, length-append, length-drop, length-replicate, getD-replicate, List·getD-eq-default}
 use lib.Seq.{take-all, set-append-seam}
+use Rattle.plan.specs.Plan.{listed}
 
 -- the part `&s[n..]`
 abbrev pub rest : ℕ → List ℕ → List ℕ
@@ -36,3 +38,47 @@ put-next n d xs x lt =
     ap (λ (k : ℕ). set (xs ++ replicate k d) (length xs) x) one
     ∙ set-append-seam xs d behind x
     ∙ sym (ap (λ (k : ℕ). (xs ++ x ∷ []) ++ replicate (n - k) d) long ∙ append-assoc xs (x ∷ []) behind)
+
+-- `listed`: how many entries, and each
+pub length-listed : {A : Type 0} (n : ℕ) (f : ℕ → A) → length (listed n f) ≡ n
+unfolding listed
+length-listed zero f = refl
+length-listed (suc n) f = ap suc (length-listed n (λ i. f (suc i)))
+
+pub get-listed : {A : Type 0} (d : A) (n : ℕ) (f : ℕ → A) (i : ℕ) → i < n → getD (listed n f) i d ≡ f i
+unfolding listed
+get-listed d zero f i h = absurd (omega arith)
+get-listed d (suc n) f zero h = refl
+get-listed d (suc n) f (suc i) h = get-listed d n (λ i. f (suc i)) i (omega arith)
+
+-- such an array, where the entries are those of a function
+module _ {E : Type 0} (d : E) where
+  listed-next : (n : ℕ) (f : ℕ → E) → listed n f ++ f n ∷ [] ≡ listed (suc n) f
+  unfolding listed
+  listed-next zero f = refl
+  listed-next (suc n) f = ap (λ (l : List E). f zero ∷ l) (listed-next n (λ i. f (suc i)))
+
+  -- the first i entries, and d behind them
+  abbrev pub filledTo : ℕ → (ℕ → E) → ℕ → List E
+  filledTo n f i = padded n d (listed i f)
+
+  pub fill-start : (n : ℕ) (f : ℕ → E) → replicate n d ≡ filledTo n f 0
+  unfolding listed
+  fill-start n f = let e : n - 0 ≡ n = omega arith in ap (λ (k : ℕ). replicate k d) (sym e)
+
+  pub fill-next :
+      (n : ℕ) (f : ℕ → E) (i : ℕ) (xs : List E) (x : E) → i < n → xs ≡ filledTo n f i → x ≡ f i → set xs i x ≡ filledTo n f (i + 1)
+  fill-next n f i xs x lt is e =
+      let long = length-listed i f in
+      let s : i + 1 ≡ suc i = add-one i in
+      ap (λ (k : ℕ). set xs k x) (sym long)
+      ∙ ap (λ (l : List E). set l (length (listed i f)) x) is
+      ∙ put-next n d (listed i f) x (rw long lt)
+      ∙ ap (λ (y : E). padded n d (listed i f ++ y ∷ [])) e
+      ∙ ap (padded n d) (listed-next i f)
+      ∙ ap (filledTo n f) (sym s)
+
+  pub fill-end : (n : ℕ) (f : ℕ → E) → filledTo n f n ≡ listed n f
+  fill-end n f =
+      let z : n - length (listed n f) ≡ 0 = rw (length-listed n f) (omega arith) in
+      ap (λ (k : ℕ). listed n f ++ replicate k d) z ∙ append-nil (listed n f)

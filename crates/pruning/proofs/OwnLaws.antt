@@ -17,7 +17,7 @@ use Rattle.network.proofs.MaskLaws.{bit-mask, bit-mask-above, mask-cong, bits-e
 use Rattle.network.proofs.MachineLaws.{bit-or}
 use Rattle.plan.specs.declared.Letter.{Letter}
 use Rattle.plan.specs.Plan.{zeroLetter, listed}
-use Rattle.game.proofs.CodeLaws.{length-listed, get-listed}
+use Rattle.plan.proofs.SliceLaws.{length-listed, get-listed}
 use Rattle.pruning.specs.Pruning.{lettersAt}
 use Rattle.pruning.proofs.SettingLaws.{power-other}
 

@@ -30,6 +30,7 @@ use Rattle.plan.specs.Plan.{letterAt, networkOf}
 use Rattle.plan.specs.Settled.{settledBy}
 use Rattle.plan.specs.WellFormed.{WellFormed}
 use Rattle.plan.proofs.PlanLaws.{network-of-well-formed}
+use Rattle.plan.proofs.SliceLaws.{get-listed}
 use Rattle.constraints.specs.Rows.{rowsSay}
 use Rattle.table.specs.declared.View.{View}
 use Rattle.table.specs.Table.{Within, setTo, unknown, free, flipped, Win, Below}
@@ -37,7 +38,6 @@ use Rattle.table.proofs.TableLaws.{free-byte}
 use Rattle.table.proofs.SetToLaws.{part-within, set-to-bit, set-to-is}
 use Rattle.game.specs.declared.Position.{Position}
 use Rattle.game.specs.Position.{stateOf, Proper, slotsAfter}
-use Rattle.game.proofs.CodeLaws.{get-listed}
 use Rattle.game.proofs.PositionLaws.{value-is}
 use Rattle.pruning.specs.Pruning.{lettersAt, viewOf}
 use Rattle.pruning.proofs.SettingLaws.{flip-other, Won, final, unheard, undecided, settle, unheard-condition, undecided-decision, settled-unheard, settled-undecided, settled-known, settled-small, settled-path, settled-on, on-only, on-undecided, on-known, on-small, on-keeps, slot-past, slot-ahead, slot-flip}

@@ -12,7 +12,7 @@ use Rattle.plan.specs.declared.Plan.{Plan}
 use Rattle.plan.specs.Plan.{zeroLetter, zeroConstraint, letterAt, constraintAt, listed}
 use Rattle.plan.proofs.PlanLaws.{listed-same}
 use Rattle.frame.specs.Frame.{Bytes}
-use Rattle.game.proofs.CodeLaws.{length-listed, get-listed}
+use Rattle.plan.proofs.SliceLaws.{length-listed, get-listed}
 use Rattle.run.specs.declared.History.{History}
 use Rattle.records.specs.Records.{letterBytes, constraintBytes, headBytes, planBytes, letterFrom, constraintFrom, planIn, planLength, historyBytes, historyIn, historyLength}
 use Rattle.records.proofs.StoreLaws.{plan-length}

@@ -1,19 +1,16 @@
--- Laws of the loops that store bytes and fill arrays. Only the checker need believe this file.
+-- Laws of the loops that store bytes. Only the checker need believe this file.
 use mathlib.Core.Path.{_≡_, refl, sym, ap, _∙_}
-use mathlib.Core.List.{List, [], _∷_, _++_, append-nil}
-use Prim.Native.Nat.{ℕ, zero, suc, _+_, _-_, _≤_, _<_}
+use mathlib.Core.List.{List, _++_}
+use Prim.Native.Nat.{ℕ, suc, _+_, _-_, _≤_, _<_}
 use native.Mathlib.Omega.{arith}
-use native.Mathlib.Numerals.{add-one}
 use borrow.Author.Tests.{le-leb, lt-leb}
-use lib.ListN.{length, getD, set, drop, replicate, length-append, length-set}
+use lib.ListN.{length, getD, set, drop, length-append, length-set}
 use lib.Seq.{sets, drop-cons, drop-length}
 use Rattle.network.proofs.JoinLaws.{join-length}
 use Rattle.plan.specs.declared.Plan.{Plan}
-use Rattle.plan.specs.Plan.{letterAt, constraintAt, listed}
+use Rattle.plan.specs.Plan.{letterAt, constraintAt}
 use Rattle.plan.specs.Faults.{putAt}
-use Rattle.plan.proofs.SliceLaws.{padded, put-next}
 use Rattle.frame.proofs.WritingLaws.{sets-append}
-use Rattle.game.proofs.CodeLaws.{length-listed}
 use Rattle.run.specs.declared.History.{History}
 use Rattle.records.specs.Records.{letterBytes, constraintBytes, headBytes, lettersBytes, constraintsBytes, planBytes, historyBytes}
 
@@ -79,36 +76,3 @@ plan-put xs p {h} room a b c =
     ∙ sym (sets-append (sets xs 0 (headBytes p)) 4 (lettersBytes p) (constraintsBytes p))
     ∙ sym (sets-append xs 0 (headBytes p) (lettersBytes p ++ constraintsBytes p))
     ∙ put-there xs 0 (headBytes p ++ lettersBytes p ++ constraintsBytes p) (omega arith)
-
--- ---- an array filled from its front
-
-module _ {E : Type 0} (d : E) where
-  listed-next : (n : ℕ) (f : ℕ → E) → listed n f ++ f n ∷ [] ≡ listed (suc n) f
-  unfolding listed
-  listed-next zero f = refl
-  listed-next (suc n) f = ap (λ (l : List E). f zero ∷ l) (listed-next n (λ i. f (suc i)))
-
-  -- the first i entries, and d behind them
-  abbrev pub filledTo : ℕ → (ℕ → E) → ℕ → List E
-  filledTo n f i = padded n d (listed i f)
-
-  pub fill-start : (n : ℕ) (f : ℕ → E) → replicate n d ≡ filledTo n f 0
-  unfolding listed
-  fill-start n f = let e : n - 0 ≡ n = omega arith in ap (λ (k : ℕ). replicate k d) (sym e)
-
-  pub fill-next :
-      (n : ℕ) (f : ℕ → E) (i : ℕ) (xs : List E) (x : E) → i < n → xs ≡ filledTo n f i → x ≡ f i → set xs i x ≡ filledTo n f (i + 1)
-  fill-next n f i xs x lt is e =
-      let long = length-listed i f in
-      let s : i + 1 ≡ suc i = add-one i in
-      ap (λ (k : ℕ). set xs k x) (sym long)
-      ∙ ap (λ (l : List E). set l (length (listed i f)) x) is
-      ∙ put-next n d (listed i f) x (rw long lt)
-      ∙ ap (λ (y : E). padded n d (listed i f ++ y ∷ [])) e
-      ∙ ap (padded n d) (listed-next i f)
-      ∙ ap (filledTo n f) (sym s)
-
-  pub fill-end : (n : ℕ) (f : ℕ → E) → filledTo n f n ≡ listed n f
-  fill-end n f =
-      let z : n - length (listed n f) ≡ 0 = rw (length-listed n f) (omega arith) in
-      ap (λ (k : ℕ). listed n f ++ replicate k d) z ∙ append-nil (listed n f)

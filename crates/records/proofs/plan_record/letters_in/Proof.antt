@@ -6,7 +6,7 @@ use native.Mathlib.Omega.{arith}
 use borrow.Author.Needs.{needs}
 use Rattle.plan.specs.Plan.{zeroLetter}
 use Rattle.records.specs.Records.{letterFrom}
-use Rattle.records.proofs.StoreLaws.{filledTo, fill-start, fill-next, fill-end}
+use Rattle.plan.proofs.SliceLaws.{filledTo, fill-start, fill-next, fill-end}
 use Rattle.records.proofs.plan_record.letters_in.Statement.{statement}
 use Rattle.records.proofs.plan_record.letters_in.Tie as tie
 
