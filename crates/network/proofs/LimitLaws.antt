@@ -167,10 +167,10 @@ module _ (s : Scenario) where
       let lx = k .0 .from-point in
       let ly = k .0 .to-point in (
         λ y.
-        let below = all-below (limited s t c) cs (c .from) (c .to) in
-        let there = limited-there n t c sq (omega arith) (omega arith) y in
-        let w = h (c .from) (c .to) lx ly in
-        limit-at-most (ψ (c .from)) (ψ (c .to)) (c .bound) (m .0) (omega arith),
+            let below = all-below (limited s t c) cs (c .from) (c .to) in
+            let there = limited-there n t c sq (omega arith) (omega arith) y in
+            let w = h (c .from) (c .to) lx ly in
+            limit-at-most (ψ (c .from)) (ψ (c .to)) (c .bound) (m .0) (omega arith),
         within-all net ψ (limited s t c) cs (k .1) (m .1) n le (limited-square n t c sq) h,
       )
 

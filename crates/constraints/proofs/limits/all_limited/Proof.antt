@@ -52,8 +52,8 @@ loop-again c =
     let s = bit (a .values) in (
       omega arith,
       c .limited .ensures
-      ∙ ap (λ t. limited s t (at (a .t1) (was .j))) (was .inv .1)
-      ∙ sym (limits-next s (a .limits) (was .j) (at (a .t1))),
+          ∙ ap (λ t. limited s t (at (a .t1) (was .j))) (was .inv .1)
+          ∙ sym (limits-next s (a .limits) (was .j) (at (a .t1))),
     )
 
 returns-2 : tie.Need-returns-2 Inv-loop μ-loop

@@ -1,6 +1,5 @@
 -- `limited`: what is called says it, where the label fails and where it holds. Only the checker need believe this file.
 use mathlib.Core.Path.{_≡_, sym, ap, _∙_}
-use Prim.Native.Nat.{ℕ}
 use borrow.Author.Needs.{needs}
 use Rattle.network.specs.Mask.{bit}
 use Rattle.network.specs.Network.{holds}

@@ -1,6 +1,5 @@
 -- `lowered_in`: one entry of a row, or past it. Only the checker need believe this file.
 use mathlib.Core.Path.{_≡_, ap}
-use Prim.Native.Nat.{_≤_}
 use native.Mathlib.Omega.{arith}
 use lib.ListN.{length, set}
 use borrow.Author.Needs.{needs}

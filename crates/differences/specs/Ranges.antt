@@ -1,0 +1,14 @@
+-- Definitions: between which numbers limits stay while they are tightened, so that 32 bits hold every sum. Not to be believed: only theorems
+-- and inner contracts use it.
+use mathlib.Core.List.{List}
+use Prim.Native.Nat.{ℕ, _+_, _≤_, _<_}
+use lib.ListN.{getD}
+use Rattle.network.specs.Limits.{bias, limitAt}
+
+-- `first` and each entry of the row can be added, and the bias taken off
+abbrev pub Joins : ℕ → List ℕ → Type 0
+Joins first via = (y : ℕ) → y < 8 → (bias ≤ first + getD via y 0) × (first + getD via y 0 < 4294967296)
+
+-- each limit is at least -n and at most 63
+abbrev pub Fair : ℕ → List (List ℕ) → Type 0
+Fair n t = (x y : ℕ) → x < 8 → y < 8 → (bias ≤ limitAt t x y + n) × (limitAt t x y ≤ bias + 63)
