@@ -4,3 +4,4 @@ pub mod PassLaws
 pub mod ExactLaws
 pub mod AnswerLaws
 pub mod DifferencesTheorems
+pub mod Cases
