@@ -59,12 +59,15 @@ use Rattle.following.proofs.FollowLaws.{no-step-refused}
 use Rattle.verdict.specs.Verdict.{verdictFault, verdictOf, leastSchedule, screened, passes}
 use Rattle.verdict.specs.Answers.{Fixed, none}
 use Rattle.verdict.proofs.AnswerLaws.{eight-answer, screen-plan-fault, fine-answer, mask-fault}
+use Rattle.differences.specs.Answers.{Differences, noTable}
+use Rattle.differences.specs.Table.{tableFault, tableOf, differenceTable}
+use Rattle.differences.proofs.AnswerLaws as table
 use Rattle.answer_text.specs.AnswerText.{answerText}
 use Rattle.answer_text.proofs.AnswerTextTheorems.{by-input}
 use Rattle.run.proofs.ToldFromLaws.{accepted-plan}
 use Rattle.demands.specs.ThisPlanner.{planner}
 use Rattle.demands.specs.EachCall.{OneOf, Fills, SaysTree, AnswersJudge, AnswersReadPlan, AnswersWritePlan, AnswersReadTree}
-use Rattle.demands.specs.EachCall.{AnswersWriteTree, AnswersCheck, AnswersSearch, AnswersShow, AnswersReport, AnswersVerdict, AnswersScreen, AnswersProgram}
+use Rattle.demands.specs.EachCall.{AnswersWriteTree, AnswersCheck, AnswersSearch, AnswersShow, AnswersReport, AnswersVerdict, AnswersScreen, AnswersTable, AnswersProgram}
 use Rattle.demands.specs.Demand1.{Demand1}
 use Rattle.demands.proofs.Demand1Laws.{one-of, one-of-more, one-between, first-one, unless-one, unless-exactly, unless-yes, long-enough}
 use Rattle.demands.proofs.Demand1Laws.{short-exactly, first-exactly, first-zero, first-some, by-plan, plan-one, stays}
@@ -427,6 +430,29 @@ screen-so p =
       beside = answered-zero false (planFault p) (passes p);
     }
 
+-- ---- the table of differences
+
+table-letters-so : (p : Plan) (values : ℕ) → WellFormed p → (differenceTable p values .fault ≡ 8) ↔ (¬ Setting (networkOf p) values)
+table-letters-so p values wf = (
+  λ e setting.
+      let z : _≡_ {A = ℕ} 8 0 = sym e ∙ ap (λ (x : Answer Differences). x .fault) (table.fine-answer p values wf setting) in
+      omega arith,
+  table.mask-fault p values wf,
+)
+
+table-so : (p : Plan) (values : ℕ) → AnswersTable p values (differenceTable p values)
+unfolding differenceTable tableFault answered
+table-so p values =
+    let letters = unless (ltb values (2 ^ p .letters)) refusal.Mask in
+    record {
+      judged = λ n. judged-as p _ (first-some (planFault p) letters (λ e. n (fine-exactly p .0 e)));
+      numbers = λ wf. first-one _ _ _ (one-of _ 0 refl (fine-exactly p .1 wf)) (unless-one _ (ltb values (2 ^ p .letters)) refusal.Mask refl);
+      letters = table-letters-so p values;
+      refused = answered-zero noTable (tableFault p values) (tableOf (networkOf p) (bit values));
+      zeros = table.eight-answer p values .zeros;
+      unused = table.unused-answer p values;
+    }
+
 -- ---- the program
 
 -- a buffer for the search
@@ -467,6 +493,7 @@ demand1 =
           all-calls p bs (begun h) (callsIn calls) (record { eight = eight; counted = omega arith; few = omega arith }) .few;
       verdict = verdict-so;
       screen = screen-so;
+      differences = table-so;
       refuse-frame = λ r. refl;
       program = program-so;
     }

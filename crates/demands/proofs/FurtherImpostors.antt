@@ -1,21 +1,23 @@
--- Impostors: checkers, readers, writers and a verdict that document 01 won't take, and more. None meets demand 2, or the verdict what document
--- 01 says of fixed outcomes; a comment says which clause each one breaks. Read the planners and the statements; only the checker need
+-- Impostors: checkers, readers, writers and a verdict that document 01 won't take, tables that card 2 won't take, and more. None meets demand
+-- 2, or what document 01 says of fixed outcomes, or card 2; a comment says which clause each one breaks. Read the planners and the statements; only the checker need
 -- believe the proofs.
-use mathlib.Core.Path.{_≡_, refl, sym, ap, _∙_}
-use mathlib.Core.Bool.{cond}
+use mathlib.Core.Path.{_≡_, refl, sym, ap, _∙_, subst}
+use mathlib.Core.Bool.{true, cond}
 use mathlib.Core.List.{List, [], _∷_, _++_}
-use Prim.Native.Nat.{ℕ, _≤_}
+use Prim.Native.Nat.{ℕ, _*_, _≤_}
 use native.Mathlib.Omega.{arith}
 use lib.Dec.{eqb}
+use lib.IntN.{ℤ, pos, negsuc}
 use lib.ListN.{length, replicate}
+use lib.Signed.{_≤ℤ_}
 use Rattle.network.specs.Mask.{bit, joinBelow}
-use Rattle.network.specs.Fixed.{Setting, Schedulable}
+use Rattle.network.specs.Fixed.{ScheduleFor, Setting, Schedulable}
 use Rattle.network.proofs.Booleans.{clash}
 use Rattle.network.proofs.MaskLaws.{bit-zero}
 use Rattle.plan.specs.declared.Plan.{Plan}
-use Rattle.plan.specs.Answer.{fine}
+use Rattle.plan.specs.Answer.{Answer, fine}
 use Rattle.plan.specs.Faults.{andThen}
-use Rattle.plan.specs.Plan.{networkOf}
+use Rattle.plan.specs.Plan.{listed, networkOf}
 use Rattle.plan.specs.WellFormed.{WellFormed}
 use Rattle.plan.proofs.Cases.{one-point, k4}
 use Rattle.frame.specs.Hex.{hexDigit}
@@ -29,10 +31,17 @@ use Rattle.plan_text.specs.ReadPlan.{readHead, readPlan}
 use Rattle.search.proofs.Cases.{computing}
 use Rattle.verdict.specs.declared.Found.the-variants as found
 use Rattle.verdict.specs.Answers.{none}
+use Rattle.differences.specs.declared.Row.{Row}
+use Rattle.differences.specs.declared.Tabled.the-variants as tabled
+use Rattle.differences.specs.Answers.{Differences, zeroRow, noTable}
+use Rattle.differences.specs.Says.{bitsAt}
+use Rattle.differences.specs.Table.{differenceTable}
+use Rattle.differences.proofs.Cases.{k1-to-k5, entries-are}
 use Rattle.demands.specs.Planner.{Planner}
 use Rattle.demands.specs.Demand2.{Demand2}
 use Rattle.demands.specs.FixedOutcomes.{FixedOutcomes}
-use Rattle.demands.proofs.OtherPlanners.{reading, writing, checking, fixing}
+use Rattle.demands.specs.ForcedOrder.{ForcedOrder}
+use Rattle.demands.proofs.OtherPlanners.{reading, writing, checking, fixing, tabulating}
 use Rattle.demands.proofs.Demand2Theorem.{demand2}
 
 -- ---- A checker that accepts everything. It breaks "yes exactly" of demand 2: it accepts K4's tree with its children exchanged (K11).
@@ -124,3 +133,51 @@ k1-schedule = record { slots = λ x. 0; schedule = record { within = λ x lt. om
 pub always-none-fails : ¬ FixedOutcomes always-none
 always-none-fails d =
     d .verdict k1 0 (record { found = found.Nothing; slots = replicate 8 0 }) refl (both-fine .0) k1-setting .0 k1-schedule
+
+-- ---- A table of "none" without looking. It contradicts the table where there is a schedule: K1 has one.
+
+abbrev pub always-no-table : Planner
+always-no-table = tabulating (λ p m. fine noTable)
+
+pub always-no-table-fails : ¬ ForcedOrder always-no-table
+always-no-table-fails d =
+    d .table k1 0 (record { tabled = tabled.Nothing; rows = replicate 8 zeroRow }) refl (both-fine .0) k1-setting .0 k1-schedule
+
+-- ---- A table with rows and columns exchanged. At row 0, column 1 of K4 where letter 0 is false it has -2, and in the schedule with point 0 in
+-- slot 0 and point 1 in slot 2 the difference is 2.
+
+abbrev exchanged : List Row → List Row
+exchanged rows = listed 8 (λ x. record { to = listed 8 (λ y. bitsAt rows y x) })
+
+abbrev exchanging : Answer Differences → Answer Differences
+exchanging a = record { fault = a .fault; value = record { scheduled = a .value .scheduled; rows = exchanged (a .value .rows) } }
+
+abbrev pub transposed : Planner
+transposed = tabulating (λ p m. exchanging (differenceTable p m))
+
+k4-fine : WellFormed k4
+unfolding computing
+k4-fine = fine-exactly k4 .0 refl
+
+k4-setting : Setting (networkOf k4) 0
+k4-setting l y = clash y (bit-zero l)
+
+abbrev two-later : ℕ → ℕ
+two-later x = 2 * x
+
+k4-schedule : ScheduleFor (networkOf k4) (bit 0) two-later
+unfolding computing
+k4-schedule = record { within = λ x lt. omega arith; kept = refl }
+
+pub transposed-fails : ¬ ForcedOrder transposed
+unfolding listed
+transposed-fails d =
+    let a = differenceTable k4 0 in
+    let fault : 0 ≡ a .fault = sym (ap (λ (x : Answer Differences). x .fault) (k1-to-k5 .3)) in
+    let some : true ≡ a .value .scheduled = sym (ap (λ (x : Answer Differences). x .value .scheduled) (k1-to-k5 .3)) in
+    let rows = exchanged (a .value .rows) in
+    let tells = d .table k4 0 (record { tabled = tabled.Table; rows = rows })
+    (λ i. record { fault = fault i; value = record { scheduled = some i; rows = rows } }) k4-fine k4-setting in
+    let two = tells .largest 0 1 (omega arith) (omega arith) .bounds two-later k4-schedule in
+    let not-two : pos 2 ≤ℤ negsuc 1 = subst (λ (z : ℤ). pos 2 ≤ℤ z) (entries-are .0) two in
+    not-two .le

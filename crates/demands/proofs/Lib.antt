@@ -4,6 +4,7 @@ pub mod Demand1Laws
 pub mod Demand1Theorem
 pub mod Demand2Theorem
 pub mod FixedOutcomesTheorem
+pub mod ForcedOrderTheorem
 pub mod ListLaws
 pub mod MadeLaws
 pub mod SaidLaws

@@ -1,5 +1,5 @@
--- Demand 1, as one statement about a planner: whatever is handed in gets a result or a refusal by one of the numbers that document 01 gives
--- the call, in its order, and every lent byte afterwards is as it says. proofs/Demand1Theorem.antt proves it of this planner. (None of its
+-- Demand 1, as one statement about a planner: whatever is handed in gets a result or a refusal by one of the numbers that document 01, or
+-- its card, gives the call, in its order, and every lent byte afterwards is as it says. proofs/Demand1Theorem.antt proves it of this planner. (None of its
 -- calls has a `requires`, and each contract equates the whole answer and every lent byte with the planner's definitions.) To be believed,
 -- for demand 1.
 use mathlib.Core.Path.{_≡_}
@@ -15,7 +15,7 @@ use Rattle.following.specs.Calls.{begun, afterCalls}
 use Rattle.following.specs.Following.{callsIn}
 use Rattle.demands.specs.Planner.{Planner}
 use Rattle.demands.specs.EachCall.{AnswersJudge, AnswersReadPlan, AnswersWritePlan, AnswersReadTree, AnswersWriteTree}
-use Rattle.demands.specs.EachCall.{AnswersCheck, AnswersSearch, AnswersShow, AnswersReport, AnswersVerdict, AnswersScreen, AnswersProgram}
+use Rattle.demands.specs.EachCall.{AnswersCheck, AnswersSearch, AnswersShow, AnswersReport, AnswersVerdict, AnswersScreen, AnswersTable, AnswersProgram}
 
 pub record Demand1 (P : Planner) : Type 0 where
   pub judge : (p : Plan) → AnswersJudge p (P .judges p)
@@ -37,6 +37,7 @@ pub record Demand1 (P : Planner) : Type 0 where
       (p : Plan) (bs : List ℕ) (h : History) (calls : List ℕ) → length (h .masks) ≡ 8 → length (P .follows p bs h calls .steps) ≤ 8
   pub verdict : (p : Plan) (values : ℕ) → AnswersVerdict p values (P .fixes p values)
   pub screen : (p : Plan) → AnswersScreen p (P .screens p)
+  pub differences : (p : Plan) (values : ℕ) → AnswersTable p values (P .tabulates p values)
   -- a refusal's frame: 7F and its number
   pub refuse-frame : (r : Refusal) → P .refuses r ≡ faultText (refusalNumber r)
   pub program : (input : List ℕ) → AnswersProgram input (P .prints input)

@@ -1,5 +1,5 @@
 -- Definitions: what each call has to answer, and to leave in a buffer that is lent to it, for whatever is handed in: document 01's "Who
--- gets which number", call by call. To be believed, for demand 1, 2.
+-- gets which number", and what the cards add to it, call by call. To be believed, for demand 1, 2.
 use mathlib.Core.Path.{_≡_}
 use mathlib.Core.Logic.{_↔_, _⊎_}
 use mathlib.Core.Bool.{Bool, true, false}
@@ -25,6 +25,8 @@ use Rattle.run.specs.declared.History.{History}
 use Rattle.run.specs.History.{historyFine, reportsIn, longer}
 use Rattle.run.specs.Told.{Told, instruct, complete, refuse, instructionAt}
 use Rattle.verdict.specs.Answers.{Fixed, none}
+use Rattle.differences.specs.Answers.{Differences, zeroRow, noTable}
+use Rattle.differences.specs.Says.{bitsAt}
 
 -- ---- Words for what follows
 
@@ -141,7 +143,7 @@ pub record AnswersReport (p : Plan) (h : History) (o : ℕ) (told : Told) (a : A
   pub lengthened : a .fault ≡ 0 → a .value ≡ longer h o
   pub refused : ¬ (a .fault ≡ 0) → a .value ≡ h
 
--- ---- Fixed outcomes, the screen, the program
+-- ---- Fixed outcomes, the screen, the table of differences, the program
 
 -- the verdict: 2, 3, 4, then 8 for a letter that the plan lacks; eight zeros beside a refusal and beside "none"
 pub record AnswersVerdict (p : Plan) (values : ℕ) (a : Answer Fixed) : Type 0 where
@@ -155,6 +157,16 @@ pub record AnswersVerdict (p : Plan) (values : ℕ) (a : Answer Fixed) : Type 0 
 pub record AnswersScreen (p : Plan) (a : Answer Bool) : Type 0 where
   pub judged : AnswersJudge p (a .fault)
   pub beside : ¬ (a .fault ≡ 0) → a .value ≡ false
+
+-- The table of differences (card 2): 2, 3, 4, then 8 for a letter that the plan lacks. 64 zeros beside a refusal and beside "none"; rows and
+-- columns of points that the plan lacks are zero.
+pub record AnswersTable (p : Plan) (values : ℕ) (t : Answer Differences) : Type 0 where
+  pub judged : ¬ WellFormed p → AnswersJudge p (t .fault)
+  pub numbers : WellFormed p → OneOf (0 ∷ 8 ∷ []) (t .fault)
+  pub letters : WellFormed p → (t .fault ≡ 8) ↔ (¬ Setting (networkOf p) values)
+  pub refused : ¬ (t .fault ≡ 0) → t .value ≡ noTable
+  pub zeros : t .value .scheduled ≡ false → t .value .rows ≡ replicate 8 zeroRow
+  pub unused : (x y : ℕ) → (p .points ≤ x) ⊎ (p .points ≤ y) → bitsAt (t .value .rows) x y ≡ 0
 
 -- the frame of 11, or the text of the tree of first moves
 abbrev pub PrintedFor : Plan → List ℕ → Type 0

@@ -5,5 +5,6 @@ pub mod EachCall
 pub mod Demand1
 pub mod Demand2
 pub mod FixedOutcomes
+pub mod ForcedOrder
 pub mod Crews
 pub mod Demand3

@@ -1,4 +1,4 @@
--- Definitions: what answers the calls of document 01. The demands are of any such planner. To be believed, for demand 1, 2, 3.
+-- Definitions: what answers the calls of document 01 and of the cards. The demands are of any such planner. To be believed, for demand 1, 2, 3.
 use mathlib.Core.Bool.{Bool}
 use mathlib.Core.List.{List}
 use Prim.Native.Nat.{ℕ}
@@ -8,6 +8,7 @@ use Rattle.plan.specs.Answer.{Answer}
 use Rattle.run.specs.declared.History.{History}
 use Rattle.following.specs.Calls.{Run, Progress}
 use Rattle.verdict.specs.Answers.{Fixed}
+use Rattle.differences.specs.Answers.{Differences}
 
 -- What each call answers, and what it leaves in a buffer that is lent to it, given last. A fault is document 01's number, 0 for none.
 pub record Planner : Type 0 where
@@ -31,6 +32,8 @@ pub record Planner : Type 0 where
   -- a plan record and a mask that sets all letters: the schedule or "none"; whether a plan record passes the screen
   pub fixes : Plan → ℕ → Answer Fixed
   pub screens : Plan → Answer Bool
+  -- card 2: a plan record and a mask that sets all letters: the table of differences or "none"
+  pub tabulates : Plan → ℕ → Answer Differences
   -- a refusal's frame; what the program prints for its input
   pub refuses : Refusal → List ℕ
   pub prints : List ℕ → List ℕ

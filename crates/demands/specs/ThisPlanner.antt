@@ -1,5 +1,5 @@
 -- Definitions: this planner: for each call the definitions that its contract cites, to be held beside the contracts. `demand2`,
--- `fixed-outcomes` and `demand3` are of it too. Computed: pinned by `demand1` of demands/proofs/Demand1Theorem.antt.
+-- `fixed-outcomes`, `demand3` and `forced-order` are of it too. Computed: pinned by `demand1` of demands/proofs/Demand1Theorem.antt.
 use Rattle.frame.specs.Texts.{refusalText}
 use Rattle.judge.specs.Judge.{planFault}
 use Rattle.plan_text.specs.WritePlan.{writePlan, writePlanLeaves}
@@ -12,6 +12,7 @@ use Rattle.following.specs.Calls.{begun, afterCalls}
 use Rattle.following.specs.ThisRun.{theRun}
 use Rattle.following.specs.Following.{callsIn}
 use Rattle.verdict.specs.Verdict.{leastSchedule, screened}
+use Rattle.differences.specs.Table.{differenceTable}
 use Rattle.answer_text.specs.AnswerText.{answerText}
 use Rattle.demands.specs.Planner.{Planner}
 
@@ -33,6 +34,7 @@ planner =
       follows = λ p tree h calls. afterCalls theRun p tree (begun h) (callsIn calls);
       fixes = leastSchedule;
       screens = screened;
+      tabulates = differenceTable;
       refuses = refusalText;
       prints = answerText;
     }

@@ -124,6 +124,9 @@ zero-rows =
       wide = λ x lx. ap (λ (r : Row). length (r .to)) (all-same 8 zeroRow x);
     }
 
+zero-at : (x y : ℕ) → bitsAt (replicate 8 zeroRow) x y ≡ 0
+zero-at x y = ap (λ (r : Row). getD (r .to) y 0) (all-same 8 zeroRow x) ∙ all-same 8 0 y
+
 pub no-table-eight : EightRows noTable
 no-table-eight = record { eight = zero-rows; zeros = λ e. refl }
 
@@ -283,6 +286,16 @@ module _ (p : Plan) (m : ℕ) where
   unfolding differenceTable answered
   eight-answer =
       by-test (eqb (tableFault p m) 0) (λ y. rw y (table-eight (networkOf p) (bit m))) (λ z. rw z no-table-eight)
+
+  -- rows and columns of points that the plan lacks are zero, whatever is answered
+  pub unused-answer : (x y : ℕ) → (p .points ≤ x) ⊎ (p .points ≤ y) → bitsAt (differenceTable p m .value .rows) x y ≡ 0
+  unfolding differenceTable answered tableOf tableFrom
+  unused-answer x y past =
+      by-test (eqb (tableFault p m) 0)
+      (λ e. rw e (by-test (steady (p .points) (closed (networkOf p) (bit m)))
+      (λ st. rw st (bits-unused (p .points) (closed (networkOf p) (bit m)) x y past))
+      (λ no. rw no (zero-at x y))))
+      (λ z. rw z (zero-at x y))
 
 -- ---- as the code tells them
 

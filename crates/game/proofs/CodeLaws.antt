@@ -16,6 +16,7 @@ use Rattle.network.proofs.Booleans.{ltb-yes}
 use Rattle.network.proofs.MachineLaws.{one-shifted}
 use Rattle.network.proofs.MaskLaws.{mask-cong, mask-full, mask-first}
 use Rattle.plan.specs.Plan.{listed}
+use Rattle.plan.proofs.SliceLaws.{length-listed, get-listed}
 
 -- ---- the first points
 
