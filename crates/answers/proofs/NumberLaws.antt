@@ -24,7 +24,11 @@ use Rattle.verdict.specs.declared.Found.the-variants as found
 use Rattle.verdict.specs.declared.screen.Screened.{Screened}
 use Rattle.verdict.specs.declared.screen.Screened.the-variants as screen
 use Rattle.verdict.specs.Answers.{saying, screenAnswer}
-use Rattle.answers.specs.Numbers.{faultNumber, numbered, answerNumber, toldNumber, fixedNumber, testNumber}
+use Rattle.differences.specs.declared.Row.{Row}
+use Rattle.differences.specs.declared.Tabled.{Tabled}
+use Rattle.differences.specs.declared.Tabled.the-variants as tabled
+use Rattle.differences.specs.Answers.{tabling}
+use Rattle.answers.specs.Numbers.{faultNumber, numbered, answerNumber, toldNumber, fixedNumber, testNumber, tableNumber}
 
 -- a refusal's number, whatever stands beside it
 pub refused-is : (r : Refusal) (v : ℕ) → faultNumber (refusalNumber r) ≡ numbered (refusalNumber r) v
@@ -81,6 +85,17 @@ screen-failed a e = rw e
 
 pub screen-refused : (a : Screened) (r : Refusal) → a ≡ screen.Refused r → faultNumber (refusalNumber r) ≡ testNumber (screenAnswer a)
 screen-refused a r e = rw e (refused-is r 0)
+
+pub tabled-table : (a : Tabled) (rows : List Row) → a ≡ tabled.Table → 1 ≡ tableNumber (tabling a rows)
+unfolding numbered
+tabled-table a rows e = rw e
+
+pub tabled-none : (a : Tabled) (rows : List Row) → a ≡ tabled.Nothing → 0 ≡ tableNumber (tabling a rows)
+unfolding numbered
+tabled-none a rows e = rw e
+
+pub tabled-refused : (a : Tabled) (rows : List Row) (r : Refusal) → a ≡ tabled.Refused r → faultNumber (refusalNumber r) ≡ tableNumber (tabling a rows)
+tabled-refused a rows r e = rw e (refused-is r 0)
 
 pub told-refused : (a : Shown) (r : Refusal) → a ≡ shown.Refused r → faultNumber (refusalNumber r) ≡ toldNumber (shownTold a)
 told-refused a r e = rw e

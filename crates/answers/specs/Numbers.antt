@@ -7,6 +7,7 @@ use Rattle.network.specs.Mask.{digit}
 use Rattle.plan.specs.Answer.{Answer}
 use Rattle.run.specs.Told.{Told, instruct, complete, refuse}
 use Rattle.verdict.specs.Answers.{Fixed}
+use Rattle.differences.specs.Answers.{Differences}
 
 -- a refusal: 7F00 (hexadecimal) and its number, like the frame 7F of a text
 abbrev pub faultNumber : ℕ → ℕ
@@ -27,6 +28,10 @@ testNumber a = numbered (a .fault) (digit (a .value))
 -- whether there is a schedule
 abbrev pub fixedNumber : Answer Fixed → ℕ
 fixedNumber a = numbered (a .fault) (digit (a .value .scheduled))
+
+-- whether there is a table
+abbrev pub tableNumber : Answer Differences → ℕ
+tableNumber a = numbered (a .fault) (digit (a .value .scheduled))
 
 -- 1 for an instruction, 0 for done
 abbrev pub toldNumber : Told → ℕ

@@ -1,4 +1,6 @@
 // Answers as numbers, for programs in other languages: the result, or 7F00 (hexadecimal) and the refusal's number.
+use differences::Row;
+use differences::Tabled;
 use frame::Written;
 use plan::Judged;
 use plan::Refusal;
@@ -14,7 +16,8 @@ ghost use Rattle.tree_text.specs.TreeRead.{treeReadAnswer};
 ghost use Rattle.search.specs.Searched.{searchedAnswer};
 ghost use Rattle.run.specs.Told.{shownTold};
 ghost use Rattle.verdict.specs.Answers.{saying, screenAnswer};
-ghost use Rattle.answers.specs.Numbers.{faultNumber, numbered, answerNumber, toldNumber, fixedNumber, testNumber};
+ghost use Rattle.differences.specs.Answers.{tabling};
+ghost use Rattle.answers.specs.Numbers.{faultNumber, numbered, answerNumber, toldNumber, fixedNumber, testNumber, tableNumber};
 
 pub fn refused(r: Refusal) -> usize
     ensures { λ n. ⌜ n ≡ faultNumber (refusalNumber r) ⌝ }
@@ -92,5 +95,16 @@ pub fn screened(answer: Screened) -> usize
         Screened::Passed => 1,
         Screened::Failed => 0,
         Screened::Refused(r) => refused(r),
+    }
+}
+
+// 1 for a table, 0 for none.
+pub fn tabled(answer: Tabled, rows: [Row; 8]) -> usize
+    ensures { λ n. ⌜ n ≡ tableNumber (tabling answer rows) ⌝ }
+{
+    match answer {
+        Tabled::Table => 1,
+        Tabled::Nothing => 0,
+        Tabled::Refused(r) => refused(r),
     }
 }
