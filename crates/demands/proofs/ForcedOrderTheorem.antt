@@ -1,8 +1,7 @@
 -- Theorem: the table of differences of this planner says what card 2 asks. Read the statement in specs/ForcedOrder.antt; only the checker
 -- need believe the proof.
-use mathlib.Core.Path.{_≡_, refl, sym, ap, _∙_, subst}
+use mathlib.Core.Path.{_≡_, refl, sym, ap, _∙_}
 use mathlib.Core.Logic.{_↔_}
-use mathlib.Core.Bool.{true, false}
 use mathlib.Core.List.{List, [], _∷_}
 use Prim.Native.Nat.{ℕ, _^_, _<_}
 use native.Mathlib.Omega.{arith}
@@ -131,34 +130,37 @@ fault-is : (p : Plan) (m : ℕ) → differenceTable p m .fault ≡ tableFault p 
 unfolding differenceTable answered
 fault-is p m = refl
 
+pub fine-fault : (p : Plan) (m : ℕ) → differenceTable p m .fault ≡ 0 → WellFormed p × Setting (networkOf p) m
+fine-fault p m e = fine-so p m (sym (fault-is p m) ∙ e)
+
 module _
-  (p : Plan) (m : ℕ) (t : DifferenceTable) (v : Verdict) (so : tableAnswer t ≡ differenceTable p m) (said : verdictAnswer v ≡ leastSchedule p m)
+    (p : Plan) (m : ℕ) (t : DifferenceTable) (v : Verdict) (so : tableAnswer t ≡ differenceTable p m) (said : verdictAnswer v ≡ leastSchedule p m)
   where
-  as-found : t .tabled ≡ tabledAs (v .found)
-  as-found =
-      let fault = ap (λ (x : Answer Differences). x .fault) so in
-      same-case (t .tabled) (v .found) (t .rows) (v .slots)
-      (fault ∙ same-fault p m ∙ sym (ap (λ (x : Answer Fixed). x .fault) said))
-      (λ e.
-      ap (λ (x : Answer Differences). x .value .scheduled) so
-      ∙ same-schedule p m (sym (fault-is p m) ∙ sym fault ∙ e)
-      ∙ sym (ap (λ (x : Answer Fixed). x .value .scheduled) said))
+    as-found : t .tabled ≡ tabledAs (v .found)
+    as-found =
+        let fault = ap (λ (x : Answer Differences). x .fault) so in
+        same-case (t .tabled) (v .found) (t .rows) (v .slots)
+        (fault ∙ same-fault p m ∙ sym (ap (λ (x : Answer Fixed). x .fault) said))
+        (λ e.
+        ap (λ (x : Answer Differences). x .value .scheduled) so
+        ∙ same-schedule p m (sym (fault-is p m) ∙ sym fault ∙ e)
+        ∙ sym (ap (λ (x : Answer Fixed). x .value .scheduled) said))
 
-  none-so : (t .tabled ≡ tabled.Nothing) ↔ (v .found ≡ found.Nothing)
-  none-so = (λ e. back (v .found) (sym as-found ∙ e), λ e. as-found ∙ ap tabledAs e)
-    where
-      back : (g : Found) → tabledAs g ≡ tabled.Nothing → g ≡ found.Nothing
-      back found.Least e = let z : _≡_ {A = ℕ} 0 1 = cc in absurd (omega arith)
-      back found.Nothing e = refl
-      back (found.Refused r) e = let z : _≡_ {A = ℕ} 0 1 = cc in absurd (omega arith)
+    none-so : (t .tabled ≡ tabled.Nothing) ↔ (v .found ≡ found.Nothing)
+    none-so = (λ e. back (v .found) (sym as-found ∙ e), λ e. as-found ∙ ap tabledAs e)
+      where
+        back : (g : Found) → tabledAs g ≡ tabled.Nothing → g ≡ found.Nothing
+        back found.Least e = let z : _≡_ {A = ℕ} 0 1 = cc in absurd (omega arith)
+        back found.Nothing e = refl
+        back (found.Refused r) e = let z : _≡_ {A = ℕ} 0 1 = cc in absurd (omega arith)
 
-  refused-so : (r : Refusal) → (t .tabled ≡ tabled.Refused r) ↔ (v .found ≡ found.Refused r)
-  refused-so r = (λ e. back (v .found) (sym as-found ∙ e), λ e. as-found ∙ ap tabledAs e)
-    where
-      back : (g : Found) → tabledAs g ≡ tabled.Refused r → g ≡ found.Refused r
-      back found.Least e = let z : _≡_ {A = ℕ} 0 1 = cc in absurd (omega arith)
-      back found.Nothing e = let z : _≡_ {A = ℕ} 0 1 = cc in absurd (omega arith)
-      back (found.Refused q) e = ap found.Refused cc
+    refused-so : (r : Refusal) → (t .tabled ≡ tabled.Refused r) ↔ (v .found ≡ found.Refused r)
+    refused-so r = (λ e. back (v .found) (sym as-found ∙ e), λ e. as-found ∙ ap tabledAs e)
+      where
+        back : (g : Found) → tabledAs g ≡ tabled.Refused r → g ≡ found.Refused r
+        back found.Least e = let z : _≡_ {A = ℕ} 0 1 = cc in absurd (omega arith)
+        back found.Nothing e = let z : _≡_ {A = ℕ} 0 1 = cc in absurd (omega arith)
+        back (found.Refused q) e = ap found.Refused cc
 
 -- ---- The theorem
 

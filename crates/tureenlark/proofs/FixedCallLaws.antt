@@ -41,7 +41,7 @@ use Rattle.tureenlark.proofs.RunCallLaws.{front-is}
 
 -- ---- a yes or no as a number
 
-digit-small : (b : Bool) → digit b < refusals
+pub digit-small : (b : Bool) → digit b < refusals
 digit-small true = omega arith
 digit-small false = omega arith
 
@@ -50,7 +50,7 @@ digit-back true = refl
 digit-back false = refl
 
 -- 1 for yes without a fault, and for nothing else
-yes-is : (f : ℕ) (b : Bool) → (¬ (f ≡ 0) → b ≡ false) → eqb (numbered f (digit b)) 1 ≡ b
+pub yes-is : (f : ℕ) (b : Bool) → (¬ (f ≡ 0) → b ≡ false) → eqb (numbered f (digit b)) 1 ≡ b
 yes-is f b beside =
     by-test (eqb f 0)
     (λ y. ap (λ (n : ℕ). eqb n 1) (number-fine f (digit b) (eqb-is f 0 y)) ∙ digit-back b)

@@ -7,4 +7,5 @@ pub mod LibraryTheorems
 pub mod PlanCallLaws
 pub mod RunCallLaws
 pub mod FixedCallLaws
+pub mod TableCallLaws
 pub mod LibraryTheorem

@@ -14,6 +14,10 @@ use Rattle.run.specs.Told.{Told, instruct, complete, refuse}
 use Rattle.verdict.specs.declared.Found.{Found}
 use Rattle.verdict.specs.declared.Found.the-variants as found
 use Rattle.verdict.specs.Answers.{saying}
+use Rattle.differences.specs.declared.Row.{Row}
+use Rattle.differences.specs.declared.Tabled.{Tabled}
+use Rattle.differences.specs.declared.Tabled.the-variants as tabled
+use Rattle.differences.specs.Answers.{tabling}
 use Rattle.answers.specs.Numbers.{faultNumber, numbered}
 use Rattle.answers.specs.Steps.{toldBytes}
 use Rattle.tureenlark.specs.Library.{shortFault, unlessShort}
@@ -81,7 +85,7 @@ module _ (f : ℕ) where
   pub put-long : (bytes xs : List ℕ) → f ≡ 0 → length bytes ≤ length xs → putAt xs 0 bytes ≡ filled f bytes xs
   put-long bytes xs e h = ap (λ (b : Bool). cond b (sets xs 0 bytes) xs) (le-leb (0 + length bytes) (length xs) (omega arith)) ∙ filled-long bytes xs e h
 
--- ---- what is told, and slots
+-- ---- what is told, slots, and rows
 
 pub few-bytes : (told : Told) → length (toldBytes told) ≤ 3
 few-bytes (instruct m) = omega arith
@@ -92,3 +96,8 @@ pub said-slots : (f : Found) (slots : List ℕ) → slots ≡ saying f slots .va
 said-slots found.Least slots = refl
 said-slots found.Nothing slots = refl
 said-slots (found.Refused r) slots = refl
+
+pub said-rows : (f : Tabled) (rows : List Row) → rows ≡ tabling f rows .value .rows
+said-rows tabled.Table rows = refl
+said-rows tabled.Nothing rows = refl
+said-rows (tabled.Refused r) rows = refl

@@ -28,6 +28,7 @@ use Rattle.tureenlark.proofs.RangeLaws as range
 use Rattle.tureenlark.proofs.PlanCallLaws as plans
 use Rattle.tureenlark.proofs.RunCallLaws as runs
 use Rattle.tureenlark.proofs.FixedCallLaws as fixed
+use Rattle.tureenlark.proofs.TableCallLaws as table
 
 -- ---- which of some records is short
 
@@ -133,6 +134,7 @@ library-demands =
       follow-numbers = range.follow-range;
       least-schedule-numbers = range.least-schedule-range;
       screen-numbers = range.screen-range;
+      differences-numbers = range.differences-range;
       answer-numbers = range.answer-range;
       judge-short = λ plan lt. sym (number-short (planShort plan) (planFault (planIn plan)) 1 (short planLength plan lt));
       read-plan-short = λ text plan lt. (
@@ -153,6 +155,8 @@ library-demands =
       follow-short = follow-short-so;
       least-schedule-no-place = no-place-so;
       least-schedule-short = schedule-short-so;
+      differences-no-place = table.no-place-so;
+      differences-short = λ plan values place lt room. table.table-short-so plan values place room lt;
       screen-short = λ plan lt. sym (number-short (planShort plan) (screened (planIn plan) .fault) _ (short planLength plan lt));
       judge = plans.judge-so;
       read-plan = λ text plan enough. plans.read-plan-so plan enough text;
@@ -180,5 +184,9 @@ library-demands =
       least-schedule-says = fixed.least-schedule-says-so;
       screen = fixed.screen-so;
       screen-passes = fixed.screen-passes-so;
+      differences = λ plan values place enough room. table.table-so plan values place room enough;
+      differences-zero = table.table-zero-so;
+      differences-says = λ plan values place enough room. table.table-says-so plan values place room enough;
+      differences-forced = λ plan values place enough room. table.table-forced-so plan values place room enough;
       answer = fixed.answer-so;
     }

@@ -31,6 +31,7 @@ use Rattle.checker.specs.Checker.{checkFault}
 use Rattle.search.specs.Search.{searchAnswer}
 use Rattle.search.proofs.SearchTheorems.{fault-is, count-bounds}
 use Rattle.verdict.specs.Verdict.{leastSchedule, screened}
+use Rattle.differences.specs.Table.{differenceTable}
 use Rattle.answer_text.specs.AnswerText.{answerText}
 use Rattle.answer_text.proofs.AnswerTextTheorems.{answer-fits}
 use Rattle.demands.specs.EachCall.{OneOf}
@@ -38,10 +39,11 @@ use Rattle.demands.proofs.Demand1Laws.{allAmong, one-of-more, first-one, unless
 use Rattle.demands.proofs.Demand1Theorem.{demand1, show-numbered, reports-one, search-one}
 use Rattle.records.specs.Records.{planIn, planLength, historyIn, historyLength}
 use Rattle.answers.specs.Numbers.{faultNumber, toldNumber}
+use Rattle.answers.specs.Tables.{tableLength}
 use Rattle.tureenlark.specs.Library.{shortFault, planShort, instructionLength, stepsLength, scheduleLength, judgePlanNumber, readPlanNumber, writePlanNumber, readTreeNumber}
 use Rattle.tureenlark.specs.Library.{writeTreeNumber, checkTreeNumber, searchNumber, showShort, toldAt, showNumber, reportShort, reportAt}
 use Rattle.tureenlark.specs.Library.{reportNumber, followShort, followed, followNumber, scheduleShort, leastScheduleNumber, screenNumber}
-use Rattle.tureenlark.specs.Library.{answerFault, answerTextNumber}
+use Rattle.tureenlark.specs.Library.{tableShort, differencesNumber, answerFault, answerTextNumber}
 use Rattle.tureenlark.specs.LibraryDemands.{ResultOr}
 use Rattle.tureenlark.proofs.DecodeLaws.{some-of, answers-of, told-numbers}
 
@@ -196,6 +198,17 @@ screen-range plan =
     let a = screened (planIn plan) in
     answers-of 0 1 _ (first (planShort plan) (a .fault)) (digit (a .value)) (λ e. digit-most (a .value))
     (first-one _ _ _ (short-one _ planLength plan refl) (one-of-more _ _ _ refl (demand1 .screen (planIn plan) .judged .numbers)))
+
+pub differences-range :
+    (plan : List ℕ) (values : ℕ) (table : List ℕ) → ResultOr 0 1 (2 ∷ 3 ∷ 4 ∷ 8 ∷ 10 ∷ []) (differencesNumber plan values table)
+differences-range plan values table =
+    let a = differenceTable (planIn plan) values in
+    let so = demand1 .differences (planIn plan) values in
+    answers-of 0 1 _ (first (tableShort plan table) (a .fault)) (digit (a .value .scheduled)) (λ e. digit-most (a .value .scheduled))
+    (first-one _ _ _ (first-one _ _ _ (short-one _ tableLength table refl) (short-one _ planLength plan refl))
+    (by-plan (planIn plan)
+    (λ wf. one-of-more _ _ _ refl (so .numbers wf))
+    (λ n h. one-of-more _ _ _ refl (so .judged n .numbers))))
 
 pub answer-range : (input text : List ℕ) → ResultOr 5 1724 (10 ∷ []) (answerTextNumber input text)
 answer-range input text =

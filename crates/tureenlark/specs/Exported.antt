@@ -36,6 +36,8 @@ pub record Exported : Type 0 where
   pub leastSchedule : List ℕ → ℕ → List ℕ → ℕ
   pub leastScheduleLeft : List ℕ → ℕ → List ℕ → List ℕ
   pub screen : List ℕ → ℕ
+  pub differences : List ℕ → ℕ → List ℕ → ℕ
+  pub differencesLeft : List ℕ → ℕ → List ℕ → List ℕ
   pub answer : List ℕ → List ℕ → ℕ
   pub answerLeft : List ℕ → List ℕ → List ℕ
 

@@ -25,17 +25,20 @@ use Rattle.following.specs.ThisRun.{theRun}
 use Rattle.following.specs.Following.{callsIn, zeroStep, followedRecord}
 use Rattle.verdict.specs.Answers.{none}
 use Rattle.verdict.specs.Verdict.{leastSchedule, screened}
+use Rattle.differences.specs.Answers.{noTable}
+use Rattle.differences.specs.Table.{differenceTable}
 use Rattle.answer_text.specs.AnswerText.{answerText}
 use Rattle.records.specs.Records.{planIn, planBytes, planLength, historyIn, historyBytes, historyLength}
 use Rattle.answers.specs.Numbers.{numbered, answerNumber, toldNumber, faultNumber}
 use Rattle.answers.specs.Steps.{toldBytes, stepBytes}
+use Rattle.answers.specs.Tables.{tableLength, tableBytes}
 
 -- ---- Records. One that is shorter than its layout is 10, before anything else is looked at.
 
 abbrev pub shortFault : ℕ → List ℕ → ℕ
 shortFault n bs = unless (leb n (length bs)) refusal.Buffer
 
--- (A plan's length and a history's stand with their layouts.)
+-- (A plan's length, a history's and a table's stand with their layouts.)
 abbrev pub instructionLength : ℕ
 instructionLength = 3
 
@@ -164,6 +167,25 @@ leastScheduleLeft plan values schedule = filled (shortFault scheduleLength sched
 
 abbrev pub screenNumber : List ℕ → ℕ
 screenNumber plan = let a = screened (planIn plan) in numbered (first (planShort plan) (a .fault)) (digit (a .value))
+
+-- ---- The table of differences.
+
+abbrev pub tableShort : List ℕ → List ℕ → ℕ
+tableShort plan table = first (shortFault tableLength table) (planShort plan)
+
+abbrev pub differencesNumber : List ℕ → ℕ → List ℕ → ℕ
+differencesNumber plan values table =
+    let a = differenceTable (planIn plan) values in
+    numbered (first (tableShort plan table) (a .fault)) (digit (a .value .scheduled))
+
+-- the 128 bytes: all zero beside "none", and where the record, the plan or the letters are refused
+abbrev pub tableFor : List ℕ → ℕ → List ℕ
+tableFor plan values =
+    unlessShort (planShort plan) (tableBytes (differenceTable (planIn plan) values .value .rows)) (tableBytes (noTable .rows))
+
+-- They fill the table's place as a schedule's slots do theirs.
+abbrev pub differencesLeft : List ℕ → ℕ → List ℕ → List ℕ
+differencesLeft plan values table = filled (shortFault tableLength table) (tableFor plan values) table
 
 -- ---- The program's answer.
 

@@ -1,21 +1,25 @@
--- Demands 1, 2 and 3 of the exported calls, over buffers of any length and contents, as one statement about a library. It speaks of the
+-- Demands 1, 2 and 3, and card 2, of the exported calls, over buffers of any length and contents, as one statement about a library. It speaks of the
 -- bytes that a program hands over and gets back. proofs/LibraryTheorem.antt proves it of this library. To be believed, for the library
 -- only.
 use mathlib.Core.Path.{_≡_}
 use mathlib.Core.Bool.{true}
 use mathlib.Core.Logic.{_↔_, _⊎_}
 use mathlib.Core.List.{List, [], _∷_, _++_}
-use Prim.Native.Nat.{ℕ, _+_, _≤_, _<_}
+use Prim.Native.Nat.{ℕ, _+_, _*_, _≤_, _<_}
 use lib.Dec.{eqb}
+use lib.IntN.{negsuc}
 use lib.ListN.{length, take, drop, replicate}
+use lib.Signed.{_≤ℤ_}
+use Rattle.network.specs.Mask.{bit}
 use Rattle.network.specs.Strategy.{Strategy, Viable, Dynamic, DynamicallyConsistent}
 use Rattle.network.specs.Game.{start}
 use Rattle.network.specs.Tree.{Tree, preorder}
 use Rattle.network.specs.FirstMoves.{FirstMoves}
 use Rattle.network.specs.Policy.{Policy, SucceedsAlways}
 use Rattle.network.specs.Fixed.{Setting, PassesScreen}
+use Rattle.network.specs.Differences.{ForcedBefore}
 use Rattle.plan.specs.declared.Plan.{Plan}
-use Rattle.plan.specs.Plan.{networkOf}
+use Rattle.plan.specs.Plan.{signed, networkOf}
 use Rattle.plan.specs.WellFormed.{WellFormed}
 use Rattle.frame.specs.Frame.{Bytes}
 use Rattle.tree.specs.Nodes.{mostBytes, legalLength, nodeCount, firstNodes, overwritten}
@@ -26,12 +30,15 @@ use Rattle.following.specs.Calls.{begun, afterCalls}
 use Rattle.following.specs.Following.{callsIn}
 use Rattle.verdict.specs.declared.Found.the-variants as found
 use Rattle.verdict.specs.Says.{Says}
+use Rattle.differences.specs.declared.Tabled.the-variants as tabled
+use Rattle.differences.specs.Says as tables
 use Rattle.demands.specs.EachCall.{Sized, OneOf, AnswersJudge, AnswersReadPlan, AnswersWritePlan, AnswersReadTree, AnswersWriteTree}
-use Rattle.demands.specs.EachCall.{AnswersCheck, AnswersSearch, AnswersShow, AnswersReport, AnswersVerdict, AnswersScreen, AnswersProgram}
+use Rattle.demands.specs.EachCall.{AnswersCheck, AnswersSearch, AnswersShow, AnswersReport, AnswersVerdict, AnswersScreen, AnswersTable, AnswersProgram}
 use Rattle.demands.specs.Demand2.{DescribesStrategy}
 use Rattle.demands.specs.Crews.{Crew}
 use Rattle.demands.specs.Demand3.{EveryCrew, EveryTwoCrews}
 use Rattle.records.specs.Records.{planIn, planBytes, planLength, historyIn, historyBytes, historyLength}
+use Rattle.answers.specs.Tables.{tableLength, tableBytes, bitsIn, rowsIn}
 use Rattle.tureenlark.specs.Exported.{Exported, refusals, answerIn, faultIn, moveIn, toldIn, runOf, bytesOfSteps}
 
 -- a result from `low` to `high`, or a refusal with one of these numbers
@@ -61,9 +68,11 @@ pub record LibraryDemands (L : Exported) : Type 0 where
   pub least-schedule-numbers :
       (plan : List ℕ) (values : ℕ) (schedule : List ℕ) → ResultOr 0 1 (2 ∷ 3 ∷ 4 ∷ 8 ∷ 10 ∷ []) (L .leastSchedule plan values schedule)
   pub screen-numbers : (plan : List ℕ) → ResultOr 0 1 (2 ∷ 3 ∷ 4 ∷ 10 ∷ []) (L .screen plan)
+  pub differences-numbers :
+      (plan : List ℕ) (values : ℕ) (table : List ℕ) → ResultOr 0 1 (2 ∷ 3 ∷ 4 ∷ 8 ∷ 10 ∷ []) (L .differences plan values table)
   pub answer-numbers : (input text : List ℕ) → ResultOr 5 1724 (10 ∷ []) (L .answer input text)
   -- ---- A record that is too short, which document 01 doesn't know: 10 before anything else, and no byte changes; but the place of a
-  -- schedule that was to be made, where there is one, is zero
+  -- schedule or table that was to be made, where there is one, is zero
   pub judge-short : (plan : List ℕ) → length plan < planLength → Ten (L .judgePlan plan)
   pub read-plan-short :
       (text plan : List ℕ) → length plan < planLength → Ten (L .readPlan text plan) × (L .readPlanLeft text plan ≡ plan)
@@ -90,6 +99,12 @@ pub record LibraryDemands (L : Exported) : Type 0 where
       (plan : List ℕ) (values : ℕ) (schedule : List ℕ) → length plan < planLength → 8 ≤ length schedule →
       Ten (L .leastSchedule plan values schedule) × (L .leastScheduleLeft plan values schedule ≡ replicate 8 0 ++ drop 8 schedule)
   pub screen-short : (plan : List ℕ) → length plan < planLength → Ten (L .screen plan)
+  pub differences-no-place :
+      (plan : List ℕ) (values : ℕ) (table : List ℕ) → length table < tableLength →
+      Ten (L .differences plan values table) × (L .differencesLeft plan values table ≡ table)
+  pub differences-short :
+      (plan : List ℕ) (values : ℕ) (table : List ℕ) → length plan < planLength → tableLength ≤ length table →
+      Ten (L .differences plan values table) × (L .differencesLeft plan values table ≡ replicate 128 0 ++ drop tableLength table)
   -- ---- Plans
   pub judge : (plan : List ℕ) → planLength ≤ length plan → AnswersJudge (planIn plan) (faultIn (L .judgePlan plan))
   pub read-plan :
@@ -175,7 +190,7 @@ pub record LibraryDemands (L : Exported) : Type 0 where
       (L .follow plan tree history calls steps ≡ length (r .steps))
       × (L .followHistory plan tree history calls steps ≡ historyBytes (r .history) ++ drop historyLength history)
       × (L .followSteps plan tree history calls steps ≡ bytesOfSteps 8 (r .steps) ++ drop 32 steps)
-  -- ---- Fixed outcomes, the screen, the program
+  -- ---- Fixed outcomes, the screen, the table of differences, the program
   pub least-schedule :
       (plan : List ℕ) (values : ℕ) (schedule : List ℕ) → planLength ≤ length plan → 8 ≤ length schedule →
       let n = L .leastSchedule plan values schedule in let left = L .leastScheduleLeft plan values schedule in
@@ -192,6 +207,27 @@ pub record LibraryDemands (L : Exported) : Type 0 where
   pub screen-passes :
       (plan : List ℕ) → planLength ≤ length plan → WellFormed (planIn plan) →
       ((L .screen plan ≡ 1) ↔ PassesScreen (networkOf (planIn plan))) × ((L .screen plan ≡ 0) ↔ (¬ PassesScreen (networkOf (planIn plan))))
+  -- the table of differences: 128 bytes, and no byte behind them
+  pub differences :
+      (plan : List ℕ) (values : ℕ) (table : List ℕ) → planLength ≤ length plan → tableLength ≤ length table →
+      let n = L .differences plan values table in let left = L .differencesLeft plan values table in
+      AnswersTable (planIn plan) values (record { fault = faultIn n; value = record { scheduled = eqb n 1; rows = rowsIn left } })
+      × (left ≡ tableBytes (rowsIn left) ++ drop tableLength table)
+  -- (128 zeros beside "none" and any refusal)
+  pub differences-zero :
+      (plan : List ℕ) (values : ℕ) (table : List ℕ) → tableLength ≤ length table → ¬ (L .differences plan values table ≡ 1) →
+      L .differencesLeft plan values table ≡ replicate 128 0 ++ drop tableLength table
+  pub differences-says :
+      (plan : List ℕ) (values : ℕ) (table : List ℕ) → planLength ≤ length plan → tableLength ≤ length table → WellFormed (planIn plan) →
+      Setting (networkOf (planIn plan)) values →
+      let n = L .differences plan values table in let rows = rowsIn (L .differencesLeft plan values table) in
+      ((n ≡ 1) × tables.Says (planIn plan) values tabled.Table rows) ⊎ ((n ≡ 0) × tables.Says (planIn plan) values tabled.Nothing rows)
+  -- where a table is answered, X is forced strictly before Y exactly when the entry at row Y, column X is at most -1
+  pub differences-forced :
+      (plan : List ℕ) (values : ℕ) (table : List ℕ) → planLength ≤ length plan → tableLength ≤ length table →
+      L .differences plan values table ≡ 1 → (x y : ℕ) → x < planIn plan .points → y < planIn plan .points →
+      ForcedBefore (networkOf (planIn plan)) (bit values) x y
+      ↔ (signed (bitsIn (L .differencesLeft plan values table) (16 * y + 2 * x)) ≤ℤ negsuc 0)
   -- what the program prints, where there is room for it
   pub answer :
       (input : List ℕ) → (printed : List ℕ) × AnswersProgram input printed

@@ -7,6 +7,7 @@ use Rattle.tureenlark.specs.Library.{judgePlanNumber, readPlanNumber, re
 use Rattle.tureenlark.specs.Library.{readTreeNumber, writeTreeNumber, checkTreeNumber, searchNumber, searchLeft}
 use Rattle.tureenlark.specs.Library.{showNumber, showLeft, reportNumber, reportLeft, followNumber, followHistory, followSteps}
 use Rattle.tureenlark.specs.Library.{leastScheduleNumber, leastScheduleLeft, screenNumber, answerTextNumber, answerTextLeft}
+use Rattle.tureenlark.specs.Library.{differencesNumber, differencesLeft}
 
 abbrev pub library : Exported
 library =
@@ -33,6 +34,8 @@ library =
       leastSchedule = leastScheduleNumber;
       leastScheduleLeft = leastScheduleLeft;
       screen = screenNumber;
+      differences = differencesNumber;
+      differencesLeft = differencesLeft;
       answer = answerTextNumber;
       answerLeft = answerTextLeft;
     }

@@ -2,6 +2,7 @@
 // Every call with a record is refused with 10 first where that is too short.
 use answers::numbers;
 use answers::steps;
+use answers::tables;
 use plan::Refusal;
 use records::history;
 use records::plan_record;
@@ -13,13 +14,16 @@ ghost use Rattle.tureenlark.specs.Library.{judgePlanNumber, readPlanNumb
 ghost use Rattle.tureenlark.specs.Library.{readTreeNumber, writeTreeNumber, checkTreeNumber, searchNumber, searchLeft};
 ghost use Rattle.tureenlark.specs.Library.{showNumber, showLeft, reportNumber, reportLeft, followNumber, followHistory, followSteps};
 ghost use Rattle.tureenlark.specs.Library.{leastScheduleNumber, leastScheduleLeft, screenNumber, answerTextNumber, answerTextLeft};
+ghost use Rattle.tureenlark.specs.Library.{differencesNumber, differencesLeft};
 
-// How many bytes an instruction has, eight steps, and a schedule.
+// How many bytes an instruction has, eight steps, a schedule, and a table of differences.
 const INSTRUCTION: usize = 3;
 
 const STEPS: usize = 32;
 
 const SCHEDULE: usize = 8;
+
+const TABLE: usize = 128;
 
 // 1 where the record is a well-formed plan; or refused with 2, 3, 4.
 #[no_mangle]
@@ -208,6 +212,27 @@ pub extern "C" fn tureenlark_screen(plan: &[u8]) -> usize
         return numbers::refused(Refusal::Buffer);
     }
     numbers::screened(verdict::screen::screen_plan(plan_record::plan_in(plan)))
+}
+
+// 1, and the table of differences where the letters of `values` are true and the others false; 0 for none; or refused with 2, 3, 4, 8.
+// With 0 and with any refusal, 10 for a short plan too, the table's 128 bytes are zero; where it has fewer, no byte changes.
+#[no_mangle]
+pub extern "C" fn tureenlark_differences(plan: &[u8], values: u8, table: &mut [u8]) -> usize
+    ensures answer { λ r. ⌜ r ≡ differencesNumber (now (plan .entry)) values (now (table .entry)) ⌝ }
+    ensures buffer { λ r. ⌜ now (table .exit) ≡ differencesLeft (now (plan .entry)) values (now (table .entry)) ⌝ }
+{
+    if table.len() < TABLE {
+        return numbers::refused(Refusal::Buffer);
+    }
+    if plan.len() < plan_record::LENGTH {
+        storing::put_bytes(table, 0, &[0; TABLE]);
+        return numbers::refused(Refusal::Buffer);
+    }
+    let answer = differences::difference_table(plan_record::plan_in(plan), values);
+    let tabled = answer.tabled;
+    let rows = answer.rows;
+    tables::put_table(table, rows);
+    numbers::tabled(tabled, rows)
 }
 
 // What the program prints for an input, and its length; or refused with 10.
