@@ -238,6 +238,34 @@ static int least_schedule(void)
     return 0;
 }
 
+static int differences(void)
+{
+    /* eight rows of 16 bytes: 0, 2 and -2, 0; then 0, 1 and 2, 0 */
+    static const uint8_t if_false[TUREENLARK_TABLE_BYTES] = {0, 0, 0, 2, [16] = 0xFF, 0xFE, 0, 0};
+    static const uint8_t if_true[TUREENLARK_TABLE_BYTES] = {0, 0, 0, 1, [16] = 0, 2, 0, 0};
+    uint8_t plan[TUREENLARK_PLAN_BYTES], table[TUREENLARK_TABLE_BYTES + 1];
+
+    k4(plan);
+    memset(table, 0xEE, sizeof table);
+    CHECK(tureenlark_differences(BUFFER(plan), 0, BUFFER(table)) == 1);
+    CHECK(memcmp(table, if_false, sizeof if_false) == 0); /* row 1, column 0 is at most -1: point 0 is forced before point 1 */
+    CHECK(tureenlark_differences(BUFFER(plan), 1, BUFFER(table)) == 1);
+    CHECK(memcmp(table, if_true, sizeof if_true) == 0); /* neither is forced */
+    CHECK(tureenlark_differences(BUFFER(plan), 2, BUFFER(table)) == refused(TUREENLARK_MASK));
+    CHECK(all(table, 0, TUREENLARK_TABLE_BYTES, 0));
+    plan[0] = 1; /* the horizon */
+    memset(table, 0xEE, TUREENLARK_TABLE_BYTES);
+    CHECK(tureenlark_differences(BUFFER(plan), 0, BUFFER(table)) == 0);
+    CHECK(all(table, 0, TUREENLARK_TABLE_BYTES, 0));
+    memset(table, 0xEE, TUREENLARK_TABLE_BYTES);
+    CHECK(tureenlark_differences(BUFFER(plan), 0, table, 127) == refused(TUREENLARK_BUFFER)); /* there is no place */
+    CHECK(all(table, 0, TUREENLARK_TABLE_BYTES, 0xEE));
+    CHECK(tureenlark_differences(plan, 399, 0, BUFFER(table)) == refused(TUREENLARK_BUFFER)); /* there is one */
+    CHECK(all(table, 0, TUREENLARK_TABLE_BYTES, 0));
+    CHECK(table[TUREENLARK_TABLE_BYTES] == 0xEE);
+    return 0;
+}
+
 static int screen(void)
 {
     uint8_t plan[TUREENLARK_PLAN_BYTES];
@@ -269,7 +297,7 @@ static int answer(void)
 int main(void)
 {
     int failed = judge_plan() || read_plan() || write_plan() || read_tree() || write_tree() || check_tree() || search() || show()
-        || report() || follow() || least_schedule() || screen() || answer();
+        || report() || follow() || least_schedule() || differences() || screen() || answer();
 
     if (failed)
         return 1;

@@ -6,9 +6,9 @@
  * A buffer is a pointer and then a length. The pointer must point to that many bytes, and must not be null even where the length is 0.
  * A buffer that is not const must overlap no other. Only the bytes that a call names change.
  *
- * Records are bytes: a plan 400, a history 9, an instruction 3, a schedule 8, steps 32. Any call with a buffer that is shorter than its
- * record is refused with 10 before anything else is looked at, and no byte changes, save a schedule's eight where only the plan is short:
- * they are zero then. Bytes behind a record are neither read nor changed.
+ * Records are bytes: a plan 400, a history 9, an instruction 3, a schedule 8, a table 128, steps 32. Any call with a buffer that is shorter
+ * than its record is refused with 10 before anything else is looked at, and no byte changes, save a schedule's eight and a table's 128
+ * where only the plan is short: they are zero then. Bytes behind a record are neither read nor changed.
  * A tree that is handed in has just its nodes' bytes: its length is three times the number of nodes, not that of the buffer it stands in.
  */
 #ifndef TUREENLARK_H
@@ -28,6 +28,7 @@ extern "C" {
 #define TUREENLARK_HISTORY_BYTES 9
 #define TUREENLARK_INSTRUCTION_BYTES 3
 #define TUREENLARK_SCHEDULE_BYTES 8
+#define TUREENLARK_TABLE_BYTES 128
 #define TUREENLARK_STEPS_BYTES 32
 #define TUREENLARK_TREE_BYTES 573
 #define TUREENLARK_PLAN_TEXT_BYTES 1025
@@ -97,6 +98,13 @@ size_t tureenlark_follow(const uint8_t *plan, size_t plan_length, const uint8_t 
  * `schedule` has fewer, no byte changes. */
 size_t tureenlark_least_schedule(const uint8_t *plan, size_t plan_length, uint8_t values, uint8_t *schedule,
                                  size_t schedule_length);
+
+/* 1, and the first 128 bytes of `table` are the differences where the letters of `values` are true and the others false: row X, column Y,
+ * two bytes from 16 X + 2 Y on (high byte, then low byte, two's complement), is the largest value that time of Y minus time of X takes in
+ * any schedule; rows and columns of unused points are zero. X is forced strictly before Y exactly where row Y, column X is at most -1. 0
+ * where there is no schedule; or refused with 2, 3, 4, 8. With 0 and with every refusal, 10 for a short plan too, the 128 bytes are zero;
+ * where `table` has fewer, no byte changes. */
+size_t tureenlark_differences(const uint8_t *plan, size_t plan_length, uint8_t values, uint8_t *table, size_t table_length);
 
 /* 1 where every setting of all letters has a schedule, 0 where one has none; or refused with 2, 3, 4. */
 size_t tureenlark_screen(const uint8_t *plan, size_t plan_length);

@@ -1,7 +1,7 @@
 //! Random cases of every call.
 
 use crate::damage::{any_plan_text, any_tree_text, plan_text};
-use crate::expected::{HISTORY_BYTES, INSTRUCTION_BYTES, PLAN_BYTES, SCHEDULE_BYTES, STEPS_BYTES};
+use crate::expected::{HISTORY_BYTES, INSTRUCTION_BYTES, PLAN_BYTES, SCHEDULE_BYTES, STEPS_BYTES, TABLE_BYTES};
 use crate::library::Case;
 use crate::made::{any_bytes, buffer, cut, record, trial, Made, Trial};
 use crate::plans::{any_plan, record_bytes, searchable_plan, settled};
@@ -14,7 +14,7 @@ use reference::search::program;
 use reference::text::{read_plan, TREE_BYTES};
 
 /// How the cases of each call are made.
-pub const MAKERS: [fn(&mut Random) -> Trial; 13] = [
+pub const MAKERS: [fn(&mut Random) -> Trial; 14] = [
     judge_plan,
     read_plan_text,
     write_plan_text,
@@ -26,6 +26,7 @@ pub const MAKERS: [fn(&mut Random) -> Trial; 13] = [
     report,
     follow,
     least_schedule,
+    differences,
     screen,
     answer,
 ];
@@ -169,12 +170,23 @@ pub fn follow(random: &mut Random) -> Trial {
     trial(random, Case::Follow { plan, tree, history, calls, steps }, &beyond)
 }
 
-pub fn least_schedule(random: &mut Random) -> Trial {
+/// A plan record and a mask, which mostly names no letter that the plan lacks.
+fn plan_and_values(random: &mut Random) -> (Made, u8) {
     let plan = any_plan(random);
     let values = if random.one_in(5) { random.mask(255) } else { random.mask(plan.all_letters()) };
-    let Made { bytes: plan, beyond } = mostly_good(random, &plan);
+    (mostly_good(random, &plan), values)
+}
+
+pub fn least_schedule(random: &mut Random) -> Trial {
+    let (Made { bytes: plan, beyond }, values) = plan_and_values(random);
     let schedule = buffer(random, SCHEDULE_BYTES);
     trial(random, Case::LeastSchedule { plan, values, schedule }, &[&beyond])
+}
+
+pub fn differences(random: &mut Random) -> Trial {
+    let (Made { bytes: plan, beyond }, values) = plan_and_values(random);
+    let table = buffer(random, TABLE_BYTES);
+    trial(random, Case::Differences { plan, values, table }, &[&beyond])
 }
 
 pub fn screen(random: &mut Random) -> Trial {

@@ -2,6 +2,7 @@
 
 use crate::library::{Answer, Case, Library};
 use reference::checker::check;
+use reference::differences::differences;
 use reference::plan::*;
 use reference::run::{report, show, History, Told};
 use reference::search::{exhaustive, program, search};
@@ -12,6 +13,7 @@ pub const PLAN_BYTES: usize = 400;
 pub const HISTORY_BYTES: usize = 9;
 pub const INSTRUCTION_BYTES: usize = 3;
 pub const SCHEDULE_BYTES: usize = 8;
+pub const TABLE_BYTES: usize = 128;
 pub const STEPS_BYTES: usize = 32;
 
 /// The answer, and every buffer of the case after the call, in the order of its parts.
@@ -165,6 +167,15 @@ impl Library for Rules {
         let least = plan_record(plan).and_then(|plan| verdict(&plan, values));
         put(schedule, &least.unwrap_or(None).unwrap_or([0; 8]));
         least.map(|least| usize::from(least.is_some()))
+    }
+
+    /// The table, row by row, or 128 zeros where `least_schedule` leaves eight; a shorter place stays as it was.
+    fn differences(&self, plan: &[u8], values: u8, table: &mut [u8]) -> Answer {
+        long_enough(table, TABLE_BYTES)?;
+        let found = plan_record(plan).and_then(|plan| differences(&plan, values));
+        let rows = found.unwrap_or(None).unwrap_or([[0; 8]; 8]);
+        put(table, &rows.concat().into_iter().flat_map(i16::to_be_bytes).collect::<Vec<u8>>());
+        found.map(|found| usize::from(found.is_some()))
     }
 
     fn screen(&self, plan: &[u8]) -> Answer {

@@ -17,6 +17,7 @@ pub trait Library {
     fn report(&self, plan: &[u8], tree: &[u8], history: &mut [u8], mask: u8) -> Answer;
     fn follow(&self, plan: &[u8], tree: &[u8], history: &mut [u8], calls: &[u8], steps: &mut [u8]) -> Answer;
     fn least_schedule(&self, plan: &[u8], values: u8, schedule: &mut [u8]) -> Answer;
+    fn differences(&self, plan: &[u8], values: u8, table: &mut [u8]) -> Answer;
     fn screen(&self, plan: &[u8]) -> Answer;
     fn answer(&self, input: &[u8], text: &mut [u8]) -> Answer;
 }
@@ -35,6 +36,7 @@ pub enum Case {
     Report { plan: Vec<u8>, tree: Vec<u8>, history: Vec<u8>, mask: u8 },
     Follow { plan: Vec<u8>, tree: Vec<u8>, history: Vec<u8>, calls: Vec<u8>, steps: Vec<u8> },
     LeastSchedule { plan: Vec<u8>, values: u8, schedule: Vec<u8> },
+    Differences { plan: Vec<u8>, values: u8, table: Vec<u8> },
     Screen { plan: Vec<u8> },
     Answer { input: Vec<u8>, text: Vec<u8> },
 }
@@ -56,6 +58,7 @@ impl Case {
             Case::Report { .. } => "Report",
             Case::Follow { .. } => "Follow",
             Case::LeastSchedule { .. } => "LeastSchedule",
+            Case::Differences { .. } => "Differences",
             Case::Screen { .. } => "Screen",
             Case::Answer { .. } => "Answer",
         }
@@ -78,6 +81,7 @@ impl Case {
                 vec![("plan", plan), ("tree", tree), ("history", history), ("calls", calls), ("steps", steps)]
             }
             Case::LeastSchedule { plan, schedule, .. } => vec![("plan", plan), ("schedule", schedule)],
+            Case::Differences { plan, table, .. } => vec![("plan", plan), ("table", table)],
             Case::Answer { input, text } => vec![("input", input), ("text", text)],
         }
     }
@@ -86,7 +90,7 @@ impl Case {
     pub fn byte(&self) -> Option<(&'static str, u8)> {
         match self {
             Case::Report { mask, .. } => Some(("mask", *mask)),
-            Case::LeastSchedule { values, .. } => Some(("values", *values)),
+            Case::LeastSchedule { values, .. } | Case::Differences { values, .. } => Some(("values", *values)),
             _ => None,
         }
     }
@@ -107,6 +111,7 @@ impl Case {
                 library.follow(plan, tree, history, calls, steps)
             }
             (Case::LeastSchedule { values, .. }, [plan, schedule]) => library.least_schedule(plan, *values, schedule),
+            (Case::Differences { values, .. }, [plan, table]) => library.differences(plan, *values, table),
             (Case::Screen { .. }, [plan]) => library.screen(plan),
             (Case::Answer { .. }, [input, text]) => library.answer(input, text),
             (_, lent) => panic!("{} buffers for {}", lent.len(), self.name()),
@@ -173,6 +178,10 @@ impl Library for Proved {
 
     fn least_schedule(&self, plan: &[u8], values: u8, schedule: &mut [u8]) -> Answer {
         truth(tureenlark::least_schedule(plan, values, schedule))
+    }
+
+    fn differences(&self, plan: &[u8], values: u8, table: &mut [u8]) -> Answer {
+        truth(tureenlark::differences(plan, values, table))
     }
 
     fn screen(&self, plan: &[u8]) -> Answer {

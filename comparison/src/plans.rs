@@ -185,6 +185,21 @@ pub fn labelled_plan(random: &mut Random) -> Plan {
     })
 }
 
+// ---- plans that take a table of differences to its limits ----
+
+/// 64 constraints, of which the last seven ask each point nine slots behind the one before it and the others nothing.
+pub fn chained(horizon: u8) -> Plan {
+    let behind = (0..7).map(|x| Constraint { from: x + 1, to: x, bound: -9, ..Constraint::default() });
+    let constraints = [Constraint::default(); 57].into_iter().chain(behind);
+    constraints.fold(Plan { horizon, points: 8, ..Plan::zero() }, |plan, c| plan.with(c))
+}
+
+/// Each two points, and each point with itself, under the lowest bound.
+pub fn lowest() -> Plan {
+    let pairs = (0..64).map(|pair| Constraint { from: pair / 8, to: pair % 8, bound: -999, ..Constraint::default() });
+    pairs.fold(Plan { horizon: 63, points: 8, ..Plan::zero() }, |plan, c| plan.with(c))
+}
+
 // ---- faulty records ----
 
 /// The bytes of a plan record: mostly well formed, else with a fault or a few, else any bytes.

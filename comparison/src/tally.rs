@@ -25,7 +25,7 @@ impl Tally {
     pub fn count(&mut self, case: &Case, expected: &Expected) {
         let outcome = outcome(case, expected);
         let labels = lengths(case, expected).into_iter().chain(details(case, expected)).chain(searched(case, expected));
-        for label in labels.chain([outcome]) {
+        for label in labels.chain(ordered(case, expected)).chain([outcome]) {
             *self.0.entry(label).or_default() += 1;
         }
     }
@@ -63,6 +63,8 @@ fn outcome(case: &Case, expected: &Expected) -> String {
         (Case::Follow { .. }, _) => format!("{number} accepted"),
         (Case::LeastSchedule { .. }, 0) => "none".into(),
         (Case::LeastSchedule { .. }, _) => "schedule".into(),
+        (Case::Differences { .. }, 0) => "none".into(),
+        (Case::Differences { .. }, _) => "table".into(),
         (Case::Screen { .. }, 0) => "fails".into(),
         (Case::Screen { .. }, _) => "passes".into(),
         (Case::Answer { .. }, _) if expected.after[1].starts_with(b"04") => "tree".into(),
@@ -77,6 +79,7 @@ fn needed(case: &Case, answer: Answer, part: &str) -> Option<usize> {
         ("history", _) => Some(HISTORY_BYTES),
         ("instruction", _) => Some(INSTRUCTION_BYTES),
         ("schedule", _) => Some(SCHEDULE_BYTES),
+        ("table", _) => Some(TABLE_BYTES),
         ("steps", _) => Some(STEPS_BYTES),
         ("tree", Case::ReadTree { .. } | Case::Search { .. }) => Some(TREE_BYTES),
         ("text", Case::WritePlan { plan, .. }) => written(write_plan(&Plan::from_bytes(plan), usize::MAX)),
@@ -115,11 +118,16 @@ fn details(case: &Case, expected: &Expected) -> Option<String> {
         (Case::ReadTree { .. }, Ok(nodes)) => Some(size(nodes)),
         (Case::CheckTree { tree, .. }, Ok(_)) => Some(size(tree.len() / 3)),
         (Case::CheckTree { tree, .. } | Case::WriteTree { tree, .. }, Err(SHAPE)) => Some(odd_length(tree)),
-        (Case::LeastSchedule { plan, .. } | Case::Screen { plan }, Ok(_)) if tiny(&Plan::from_bytes(plan)) => {
+        (Case::LeastSchedule { plan, .. } | Case::Differences { plan, .. } | Case::Screen { plan }, Ok(_))
+            if tiny(&Plan::from_bytes(plan)) =>
+        {
             Some("by enumeration".into())
         }
         (Case::LeastSchedule { plan, schedule, .. }, Err(BUFFER)) if plan.len() < PLAN_BYTES => {
-            Some(place_beside_short(schedule))
+            Some(place_beside_short(schedule, SCHEDULE_BYTES))
+        }
+        (Case::Differences { plan, table, .. }, Err(BUFFER)) if plan.len() < PLAN_BYTES => {
+            Some(place_beside_short(table, TABLE_BYTES))
         }
         (Case::Show { history, .. }, Err(MASK)) => Some(way_to_8(history)),
         (Case::Report { history, .. }, Err(MASK)) => Some(way_to_8(history)),
@@ -133,11 +141,12 @@ fn details(case: &Case, expected: &Expected) -> Option<String> {
     }
 }
 
-/// Of a schedule's place beside a short plan: whether it is there, and whether zeros can be told from what stood there.
-fn place_beside_short(schedule: &[u8]) -> String {
-    let word = match schedule.first_chunk::<SCHEDULE_BYTES>() {
+/// Of a schedule's or a table's place beside a short plan: whether it is there, and whether zeros can be told from what
+/// stood there.
+fn place_beside_short(buffer: &[u8], needed: usize) -> String {
+    let word = match buffer.get(..needed) {
         None => "no place",
-        Some([0, 0, 0, 0, 0, 0, 0, 0]) => "zeros before",
+        Some(place) if place.iter().all(|&byte| byte == 0) => "zeros before",
         Some(_) => "zeros anew",
     };
     format!("10, plan short: {word}")
@@ -165,6 +174,17 @@ fn searched(case: &Case, expected: &Expected) -> Vec<String> {
             expected.answer.ok().map(size).into_iter().chain(whole).collect()
         }
         _ => Vec::new(),
+    }
+}
+
+/// Of a table: whether it forces some point before another.
+fn ordered(case: &Case, expected: &Expected) -> Option<String> {
+    match (case, expected.answer) {
+        (Case::Differences { .. }, Ok(1)) => {
+            let forced = expected.after[1][..TABLE_BYTES].chunks(2).any(|entry| entry[0] >= 0x80);
+            Some(if forced { "an order is forced" } else { "no order is forced" }.into())
+        }
+        _ => None,
     }
 }
 

@@ -272,6 +272,28 @@ const LEAST_SCHEDULE: Call = Call {
     sized: &["plan", "schedule"],
 };
 
+const DIFFERENCES: Call = Call {
+    seed: 14,
+    cases: 12000,
+    make: cases::differences,
+    needed: &[
+        ("table", 3000),
+        ("none", 1300),
+        ("2", 300),
+        ("3", 300),
+        ("4", 300),
+        ("8", 1000),
+        ("10", 700),
+        ("10, plan short: zeros anew", 150),
+        ("10, plan short: no place", 5),
+        ("table longer, 8", 300),
+        ("an order is forced", 1000),
+        ("no order is forced", 300),
+        ("by enumeration", 1000),
+    ],
+    sized: &["plan", "table"],
+};
+
 const SCREEN: Call = Call {
     seed: 12,
     cases: 10000,
@@ -306,7 +328,7 @@ const ANSWER: Call = Call {
     sized: &["text"],
 };
 
-const CALLS: [Call; 13] = [
+const CALLS: [Call; 14] = [
     JUDGE_PLAN,
     READ_PLAN,
     WRITE_PLAN,
@@ -318,6 +340,7 @@ const CALLS: [Call; 13] = [
     REPORT,
     FOLLOW,
     LEAST_SCHEDULE,
+    DIFFERENCES,
     SCREEN,
     ANSWER,
 ];
@@ -375,6 +398,11 @@ fn follow() {
 #[test]
 fn least_schedule() {
     run(&LEAST_SCHEDULE);
+}
+
+#[test]
+fn differences() {
+    run(&DIFFERENCES);
 }
 
 #[test]

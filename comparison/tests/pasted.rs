@@ -1,5 +1,6 @@
 //! Cases that stand alone. A comparison that fails prints one; it is pasted here and stays.
 
+use comparison::plans::{chained, lowest};
 use comparison::{compare, compare_between, hex, Case};
 use reference::known::k;
 
@@ -45,5 +46,32 @@ fn a_plan_cut() {
     {
         let plan = k(4).to_bytes()[..length].to_vec();
         compare(&Case::LeastSchedule { plan, values: 0, schedule: vec![0xEE; place] });
+    }
+}
+
+/// The same of the table's 128 bytes.
+#[test]
+fn a_plan_cut_beside_a_table() {
+    for (length, place) in
+        [399, 0].into_iter().flat_map(|length| [(length, 128), (length, 140), (length, 127), (length, 0)])
+    {
+        let plan = k(4).to_bytes()[..length].to_vec();
+        compare(&Case::Differences { plan, values: 0, table: vec![0xEE; place] });
+    }
+}
+
+/// All eight points forced one behind the other, from slot 0 to slot 63; with a slot less none, and none by far.
+#[test]
+fn tables_at_their_limits() {
+    for plan in [chained(63), chained(62), lowest()] {
+        compare(&Case::Differences { plan: plan.to_bytes(), values: 0, table: vec![0xEE; 128] });
+    }
+}
+
+/// K1 to K10, which have two letters at most, under every mask of three: tables, none and 8.
+#[test]
+fn differences_of_k1_to_k10() {
+    for (number, values) in (1..=10).flat_map(|number| (0..8).map(move |values| (number, values))) {
+        compare(&Case::Differences { plan: k(number).to_bytes(), values, table: vec![0xEE; 131] });
     }
 }

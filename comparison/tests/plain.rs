@@ -5,9 +5,10 @@ use comparison::expected::expected;
 use comparison::plain;
 use comparison::plain::library::Plain;
 use comparison::plain::plan::PLAN_BYTES;
+use comparison::plans::{chained, lowest};
 use reference::plan::{masks_inside, Plan};
 use reference::random::{bare_plan, fit, random_tree, small_plan, Random};
-use reference::{checker, run, search, text, verdict};
+use reference::{checker, differences, run, search, text, verdict};
 use std::path::{Path, PathBuf};
 
 /// What a lent buffer holds before a call.
@@ -126,6 +127,12 @@ fn compare_verdict(plan: &Plan, values: u8) -> Result<Option<[u8; 8]>, u8> {
     expected
 }
 
+fn compare_differences(plan: &Plan, values: u8) -> Result<Option<differences::Table>, u8> {
+    let expected = differences::differences(plan, values);
+    assert_eq!(plain::differences(&plain_plan(plan), values), expected, "{plan:?} {values}");
+    expected
+}
+
 fn compare_screen(plan: &Plan) -> Result<bool, u8> {
     let expected = verdict::screen(plan);
     assert_eq!(plain::screen(&plain_plan(plan)), expected, "{plan:?}");
@@ -199,6 +206,7 @@ fn plan_records() {
         assert_eq!(plain_plan(&plan).to_bytes().to_vec(), bytes);
         let written = compare_plan_writing(&plan, PLAN_TEXT_BYTES);
         let _ = (compare_screen(&plan), compare_verdict(&plan, 0), compare_check(&plan, &[0, 1, 0]));
+        let _ = compare_differences(&plan, 0);
         if written.is_err() {
             let _ = compare_search(&plan, TREE_BYTES);
         }
@@ -316,10 +324,37 @@ fn verdicts_and_screens() {
 }
 
 #[test]
+fn tables_of_differences() {
+    let mut random = Random(109);
+    let mut tally = Tally([0; 12]);
+    let (mut tables, mut none, mut forced) = (0, 0, 0);
+    for round in 0..1000 {
+        let constraints = if round % 2 == 0 { 8 } else { 40 };
+        let plan = small_plan(&mut random, 20, 8, constraints);
+        for values in masks_inside(plan.all_letters()).chain([random.byte(0, 255)]) {
+            let answer = compare_differences(&plan, values);
+            tally.count(&answer);
+            match answer {
+                Ok(Some(table)) => {
+                    tables += 1;
+                    forced += u32::from(table.as_flattened().iter().any(|&entry| entry < 0));
+                }
+                Ok(None) => none += 1,
+                Err(_) => {}
+            }
+        }
+    }
+    tally.expect(&[0, 8], 100);
+    assert!(tables.min(none).min(forced) >= 100, "{tables} {none} {forced}");
+    let limits = [chained(63), chained(62), lowest()].map(|plan| compare_differences(&plan, 0));
+    assert!(matches!(limits, [Ok(Some(_)), Ok(None), Ok(None)]));
+}
+
+#[test]
 fn calls_over_records() {
     let mut random = Random(108);
     let mut tally = Tally([0; 12]);
-    for number in 0..2600 {
+    for number in 0..2800 {
         let case = MAKERS[number % MAKERS.len()](&mut random).case;
         let expected = expected(&case);
         let mut lent: Vec<Vec<u8>> = case.parts().iter().map(|(_, bytes)| bytes.to_vec()).collect();

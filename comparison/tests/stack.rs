@@ -18,6 +18,7 @@ struct Room {
     history: Vec<u8>,
     instruction: Vec<u8>,
     schedule: Vec<u8>,
+    table: Vec<u8>,
     steps: Vec<u8>,
     calls: Vec<u8>,
 }
@@ -31,6 +32,7 @@ impl Room {
             history: vec![0; HISTORY_BYTES],
             instruction: vec![0; INSTRUCTION_BYTES],
             schedule: vec![0; SCHEDULE_BYTES],
+            table: vec![0; TABLE_BYTES],
             steps: vec![0; STEPS_BYTES],
             calls: Vec::with_capacity(32),
         }
@@ -57,7 +59,8 @@ fn calls_of(input: &[u8], output: &[u8], room: &mut Room, met: &mut Met) {
     assert!(write_plan(&room.plan, &mut room.text) == Ok(input.len()));
     screen(&room.plan).expect("a plan");
     for values in 0..1 << room.plan[2] {
-        least_schedule(&room.plan, values, &mut room.schedule).expect("a setting");
+        let found = least_schedule(&room.plan, values, &mut room.schedule).expect("a setting");
+        assert!(differences(&room.plan, values, &mut room.table) == Ok(found));
     }
     let Ok(nodes) = search(&room.plan, &mut room.tree) else { return };
     met.trees += 1;

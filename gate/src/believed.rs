@@ -33,7 +33,7 @@ pub struct Statement<'a> {
 }
 
 /// The statements, in the order of the documents.
-pub const STATEMENTS: [Statement; 7] = [
+pub const STATEMENTS: [Statement; 8] = [
     Statement { page: CALLS, title: "Demand 1", word: "demand 1", roots: &[("demands", "Demand1", "Demand1")] },
     Statement { page: PAGE, title: "Demand 2", word: "demand 2", roots: &[("demands", "Demand2", "Demand2")] },
     Statement { page: PAGE, title: "Demand 3", word: "demand 3", roots: &[("demands", "Demand3", "Demand3")] },
@@ -72,6 +72,12 @@ pub const STATEMENTS: [Statement; 7] = [
             ("constraints", "Labels", "label"),
             ("constraints", "Labels", "testedAs"),
         ],
+    },
+    Statement {
+        page: CARDS,
+        title: "Card 2: which step must come before which",
+        word: "card 2",
+        roots: &[("demands", "ForcedOrder", "ForcedOrder")],
     },
 ];
 

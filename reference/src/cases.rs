@@ -1,6 +1,7 @@
 //! The interpreter of case files: what each line must print.
 
 use crate::checker::check;
+use crate::differences::differences;
 use crate::plan::{Plan, Refusal};
 use crate::run::{report, show, History, Told};
 use crate::text::{read_plan, read_tree, write_plan, write_tree, TREE_BYTES};
@@ -59,6 +60,21 @@ impl Kept {
         }
     }
 
+    fn differences(&self, mask: u8) -> String {
+        let (word, table) = match differences(&self.plan, mask) {
+            Ok(Some(table)) => ("table".to_string(), table),
+            Ok(None) => ("none".to_string(), [[0; 8]; 8]),
+            Err(number) => (refusal(number), [[0; 8]; 8]),
+        };
+        let entries: String = table.iter().flatten().map(|entry| hex(&entry.to_be_bytes())).collect();
+        format!("{word} {entries}")
+    }
+
+    fn screen(&self) -> String {
+        let word = |passes| if passes { "passes" } else { "fails" }.to_string();
+        screen(&self.plan).map_or_else(refusal, word)
+    }
+
     fn call(&mut self, line: &[u8]) -> Vec<u8> {
         let given = line.get(2..).unwrap_or(&[]);
         let text = || exchange(given, b'|', b'\n');
@@ -84,10 +100,8 @@ impl Kept {
             }
             b'c' => check(&self.plan, &self.tree).map_or_else(refusal, |_| "yes".to_string()).into_bytes(),
             b'm' => self.verdict(bytes_of(given)[0]).into_bytes(),
-            b's' => {
-                let word = |passes| if passes { "passes" } else { "fails" }.to_string();
-                screen(&self.plan).map_or_else(refusal, word).into_bytes()
-            }
+            b'd' => self.differences(bytes_of(given)[0]).into_bytes(),
+            b's' => self.screen().into_bytes(),
             b'h' => {
                 let bytes = bytes_of(given);
                 self.history = History { count: bytes[0], masks: bytes[1..].try_into().expect("eight masks") };

@@ -1,4 +1,4 @@
-//! A reference planner, written straight from documents 01 (the scope) and 000 (Definitions 1 to 9).
+//! A reference planner, written straight from documents 01 (the scope), 02 (the cards) and 000 (Definitions 1 to 9).
 //!
 //! It shares no code with the proved planner and prefers the plainest rendering of each rule over speed: trees are
 //! judged through the strategies they describe, the schedules of tiny plans are enumerated, the game is searched move by
@@ -6,6 +6,7 @@
 
 pub mod cases;
 pub mod checker;
+pub mod differences;
 pub mod known;
 pub mod plan;
 pub mod random;

@@ -2,10 +2,10 @@
 //! contents.
 //!
 //! Records are bytes, as docs/LIBRARY.md lays them out: a plan is [`PLAN_BYTES`] long, a history [`HISTORY_BYTES`], an
-//! instruction [`INSTRUCTION_BYTES`], a schedule [`SCHEDULE_BYTES`], steps [`STEPS_BYTES`]. A slice that is shorter
-//! than its record is refused with [`Refusal::Buffer`] before anything else is looked at, and no byte changes, save a
-//! schedule's eight where only the plan is short: they are zero then. Bytes behind a record are neither read nor
-//! changed. Only the bytes that a call names change.
+//! instruction [`INSTRUCTION_BYTES`], a schedule [`SCHEDULE_BYTES`], a table [`TABLE_BYTES`], steps [`STEPS_BYTES`]. A
+//! slice that is shorter than its record is refused with [`Refusal::Buffer`] before anything else is looked at, and no
+//! byte changes, save a schedule's eight and a table's 128 where only the plan is short: they are zero then. Bytes
+//! behind a record are neither read nor changed. Only the bytes that a call names change.
 //!
 //! From a plan's text to a crew that is done:
 //!
@@ -88,6 +88,13 @@ mod raw {
             schedule: *mut u8,
             schedule_length: usize,
         ) -> usize;
+        pub fn tureenlark_differences(
+            plan: *const u8,
+            plan_length: usize,
+            values: u8,
+            table: *mut u8,
+            table_length: usize,
+        ) -> usize;
         pub fn tureenlark_screen(plan: *const u8, plan_length: usize) -> usize;
         pub fn tureenlark_answer(input: *const u8, input_length: usize, text: *mut u8, text_length: usize) -> usize;
     }
@@ -101,6 +108,8 @@ pub const HISTORY_BYTES: usize = 9;
 pub const INSTRUCTION_BYTES: usize = 3;
 /// The length of a schedule: the slot of each point.
 pub const SCHEDULE_BYTES: usize = 8;
+/// The length of a table of differences: eight rows of eight entries, two bytes each.
+pub const TABLE_BYTES: usize = 128;
 /// The length of steps: eight times slot, points, choices and mask.
 pub const STEPS_BYTES: usize = 32;
 /// What a tree that is read or searched needs, and the length of the longest tree.
@@ -488,6 +497,60 @@ pub fn least_schedule(plan: &[u8], values: u8, schedule: &mut [u8]) -> Result<bo
     taken_apart("least_schedule", answer, 0..=1, &[10, 2, 3, 4, 8]).map(|found| found == 1)
 }
 
+/// Where the letters of `values` are true and the others false: `true`, and the first 128 bytes of `table` are the
+/// differences, or `false` where there is no schedule. Row X, column Y (see [`entry`]) is the largest value that time
+/// of Y minus time of X takes in any schedule; rows and columns of unused points are zero. X is forced strictly before
+/// Y exactly where row Y, column X is at most -1. Refused with 10, 2, 3, 4 or 8. Beside `false` and every refusal, 10
+/// for a short plan too, the 128 bytes are zero; where `table` has fewer, no byte changes.
+///
+/// ```
+/// use tureenlark::*;
+///
+/// let mut plan = [0; PLAN_BYTES];
+/// read_plan(b"0102020102\n02000000\n03000100010101\n030100FFFE0100\n", &mut plan)?;
+/// let (fetch, photograph) = (0, 1);
+/// let mut table = [0xEE; TABLE_BYTES];
+/// assert_eq!(differences(&plan, 0, &mut table), Ok(true));
+/// assert_eq!(entry(&table, photograph, fetch), -2); // at most -1: fetch before photograph
+/// assert_eq!(entry(&table, fetch, photograph), 2); // and photograph at most 2 slots later
+/// assert_eq!(entry(&table, fetch, 7), 0); // there is no point 7
+/// assert_eq!(differences(&plan, 1, &mut table), Ok(true));
+/// assert_eq!(entry(&table, photograph, fetch), 2); // fetch may come 2 slots later: no order is forced
+///
+/// plan[0] = 1; // the horizon
+/// assert_eq!(differences(&plan, 0, &mut table), Ok(false));
+/// assert_eq!(table, [0; TABLE_BYTES]);
+/// assert_eq!(differences(&plan, 2, &mut table), Err(Refusal::Mask)); // there is no letter 1
+/// table.fill(0xEE);
+/// assert_eq!(differences(&plan, 0, &mut table[..127]), Err(Refusal::Buffer)); // there is no place
+/// assert_eq!(table, [0xEE; TABLE_BYTES]);
+/// assert_eq!(differences(&plan[..399], 0, &mut table), Err(Refusal::Buffer)); // there is one
+/// assert_eq!(table, [0; TABLE_BYTES]);
+/// # Ok::<(), Refusal>(())
+/// ```
+pub fn differences(plan: &[u8], values: u8, table: &mut [u8]) -> Result<bool, Refusal> {
+    let answer =
+        unsafe { raw::tureenlark_differences(plan.as_ptr(), plan.len(), values, table.as_mut_ptr(), table.len()) };
+    taken_apart("differences", answer, 0..=1, &[10, 2, 3, 4, 8]).map(|found| found == 1)
+}
+
+/// Row `x`, column `y` of a table that [`differences`] filled: the largest value that time of `y` minus time of `x`
+/// takes. Panics where `x` or `y` is above 7, or the slice is shorter than [`TABLE_BYTES`].
+///
+/// ```
+/// use tureenlark::*;
+///
+/// let mut table = [0; TABLE_BYTES];
+/// table[16..18].copy_from_slice(&[0xFF, 0xFE]);
+/// assert_eq!(entry(&table, 1, 0), -2);
+/// assert_eq!(entry(&table, 0, 1), 0);
+/// ```
+pub fn entry(table: &[u8], x: usize, y: usize) -> i16 {
+    assert!(x < 8 && y < 8, "a table has no row {x}, column {y}");
+    let (table, place) = (&table[..TABLE_BYTES], 16 * x + 2 * y);
+    i16::from_be_bytes([table[place], table[place + 1]])
+}
+
 /// Whether every setting of all letters has a schedule. Refused with 10, 2, 3 or 4. A plan that passes may still be
 /// hopeless.
 ///
@@ -538,6 +601,13 @@ mod tests {
             let refusal = taken_apart("search", REFUSED + number as usize, 1..=191, &all).unwrap_err();
             assert_eq!(refusal.number(), number);
             assert!(refusal.to_string().starts_with("the "));
+        }
+    }
+
+    #[test]
+    fn no_entry_is_read_outside_a_table() {
+        for (length, x, y) in [(TABLE_BYTES, 8, 0), (TABLE_BYTES, 0, 8), (TABLE_BYTES - 1, 0, 0)] {
+            assert!(std::panic::catch_unwind(|| entry(&vec![0; length], x, y)).is_err(), "{length} {x} {y}");
         }
     }
 

@@ -1,4 +1,5 @@
-//! The label test, what it is to keep a constraint, and the raise: points moved to the slots that constraints ask.
+//! The label test, what it is to keep a constraint, the raise (points moved to the slots that constraints ask), and
+//! limits of differences.
 
 use super::masks::has;
 use super::plan::{Constraint, Plan};
@@ -8,6 +9,12 @@ pub type Slots = [u8; 8];
 
 /// Under a setting all letters are known.
 const ALL_LETTERS: u8 = 255;
+
+/// At row X, column Y a number that time of Y minus time of X may not exceed, plus the bias.
+pub type Limits = [[u32; 8]; 8];
+
+/// So that no limit is negative.
+pub const BIAS: u32 = 1 << 24;
 
 /// What the letters known so far say of a label.
 #[derive(Clone, Copy, PartialEq, Eq, Debug)]
@@ -47,6 +54,15 @@ impl Constraint {
         let slot = &mut slots[self.from as usize];
         *slot = asked.max(*slot);
     }
+
+    /// Lowers the limit for its points to its bound. Where the label does not hold nothing is asked.
+    fn limit(&self, limits: &mut Limits, values: u8) {
+        if label_test(self.need, self.truth, values, ALL_LETTERS) != Tested::Holds {
+            return;
+        }
+        let limit = &mut limits[self.from as usize][self.to as usize];
+        *limit = BIAS.wrapping_add_signed(self.bound.into()).min(*limit);
+    }
 }
 
 /// Whether no constraint of the plan is broken so far, where the letters of `known` are known, those of them in `values`
@@ -59,5 +75,12 @@ pub fn all_kept_so_far(plan: &Plan, slots: &Slots, values: u8, known: u8, perfor
 pub fn raise(plan: &Plan, slots: &mut Slots, values: u8, cap: u8) {
     for c in plan.used_constraints() {
         c.take_turn(slots, values, cap);
+    }
+}
+
+/// What each constraint asks of the limits.
+pub fn limit_all(plan: &Plan, limits: &mut Limits, values: u8) {
+    for c in plan.used_constraints() {
+        c.limit(limits, values);
     }
 }

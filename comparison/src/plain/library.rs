@@ -3,12 +3,13 @@
 use super::answer_text::answer_to;
 use super::following::{follow, Step};
 use super::plan::{Refusal, BUFFER, PLAN_BYTES};
-use super::{check_tree, judge, least_schedule, read_plan, read_tree, report, screen, search, show};
+use super::{check_tree, differences, judge, least_schedule, read_plan, read_tree, report, screen, search, show};
 use super::{write_plan, write_tree, History, Plan, Told};
 use crate::library::{Answer, Library};
 
 const STEP_BYTES: usize = 4;
 const MOST_STEPS: usize = 8;
+const TABLE_BYTES: usize = 128;
 
 /// The record at the front of a buffer; 10 where the buffer is shorter.
 fn record<const N: usize>(bytes: &[u8]) -> Result<&[u8; N], Refusal> {
@@ -101,6 +102,16 @@ impl Library for Plain {
         let least = plan_in(plan).and_then(|plan| least_schedule(&plan, values));
         *place = least.unwrap_or(None).unwrap_or([0; 8]);
         least.map(|least| usize::from(least.is_some()))
+    }
+
+    fn differences(&self, plan: &[u8], values: u8, table: &mut [u8]) -> Answer {
+        let place = record_mut::<TABLE_BYTES>(table)?;
+        let found = plan_in(plan).and_then(|plan| differences(&plan, values));
+        let rows = found.unwrap_or(None).unwrap_or([[0; 8]; 8]);
+        for (bytes, entry) in place.chunks_exact_mut(2).zip(rows.as_flattened()) {
+            bytes.copy_from_slice(&entry.to_be_bytes());
+        }
+        found.map(|found| usize::from(found.is_some()))
     }
 
     fn screen(&self, plan: &[u8]) -> Answer {

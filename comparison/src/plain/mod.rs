@@ -4,6 +4,7 @@
 pub mod answer_text;
 pub mod checker;
 pub mod constraints;
+pub mod differences;
 pub mod following;
 pub mod frame;
 pub mod game;
@@ -23,6 +24,7 @@ pub mod turns;
 pub mod verdict;
 
 pub use checker::check_tree;
+pub use differences::differences;
 pub use judge::judge;
 pub use plan::{Plan, Refusal};
 pub use plan_text::{read_plan, write_plan};

@@ -1,5 +1,7 @@
 // Answers, printed to standard output. The line feed after each is printed by the caller.
 use crate::lines;
+use differences::Row;
+use differences::Tabled;
 use frame::Written;
 use frame::hex;
 use frame::writing;
@@ -74,6 +76,38 @@ pub fn print_found(found: Found) {
         Found::Least => print(b"least"),
         Found::Nothing => print(b"none"),
         Found::Refused(r) => print_refusal(r),
+    }
+}
+
+pub fn print_tabled(tabled: Tabled) {
+    match tabled {
+        Tabled::Table => print(b"table"),
+        Tabled::Nothing => print(b"none"),
+        Tabled::Refused(r) => print_refusal(r),
+    }
+}
+
+// Four digits.
+fn print_entry(bits: u16) {
+    print_byte((bits / 256) as u8);
+    print_byte((bits % 256) as u8);
+}
+
+// Eight entries.
+fn print_row(row: Row) {
+    let to = row.to;
+    let mut y: usize = 0;
+    while y < 8 {
+        print_entry(to[y]);
+        y += 1;
+    }
+}
+
+pub fn print_rows(rows: [Row; 8]) {
+    let mut x: usize = 0;
+    while x < 8 {
+        print_row(rows[x]);
+        x += 1;
     }
 }
 

@@ -125,6 +125,17 @@ impl Kept {
         self
     }
 
+    fn tabulate(self, digits: &[u8]) -> Kept {
+        let plan = self.plan;
+        let table = differences::difference_table(plan, reading::value_at(digits, 0));
+        let tabled = table.tabled;
+        let rows = table.rows;
+        printing::print_tabled(tabled);
+        printing::print(b" ");
+        printing::print_rows(rows);
+        self
+    }
+
     fn screen(self) -> Kept {
         let plan = self.plan;
         printing::print_screened(verdict::screen::screen_plan(plan));
@@ -165,6 +176,7 @@ impl Kept {
             b'b' => self.take_bytes(given).write_tree(),
             b'c' => self.check(),
             b'm' => self.decide(given),
+            b'd' => self.tabulate(given),
             b's' => self.screen(),
             b'h' => self.with_history(hex_bytes::history_in(given)).show(),
             b'i' => self.show(),

@@ -1,5 +1,5 @@
 -- Definitions: what a table of differences has to say of a well-formed plan under a setting of all its letters, in card 2's words. To be
--- believed, for card 2 only.
+-- believed, for demand 1.
 use mathlib.Core.Path.{_≡_}
 use mathlib.Core.Logic.{_⊎_}
 use mathlib.Core.List.{List}

@@ -1,4 +1,4 @@
--- Card 2: differences of times over all schedules under one setting of all letters. To be believed, for card 2 only.
+-- Card 2: differences of times over all schedules under one setting of all letters. To be believed, for the library and card 2 only.
 use mathlib.Core.Path.{_≡_}
 use Prim.Native.Nat.{ℕ, _<_}
 use lib.IntN.{ℤ, subℕ}

@@ -76,6 +76,11 @@ impl Cases {
         masks.into_iter().for_each(|mask| self.hex(b'm', &[mask]));
     }
 
+    fn tables(&mut self, plan: &Plan, masks: impl IntoIterator<Item = u8>) {
+        self.plan(plan);
+        masks.into_iter().for_each(|mask| self.hex(b'd', &[mask]));
+    }
+
     fn screened(&mut self, plan: &Plan) {
         self.plan(plan);
         self.line(b's', b"");
@@ -542,16 +547,50 @@ fn screens(f: &mut Cases) {
     }
 }
 
+// ---- tables of differences ----
+
+fn differences(f: &mut Cases) {
+    f.note("six letters and constraints on many labels, under the horizons 6, 63; the longest plan");
+    for horizon in [6, 63] {
+        f.tables(&Plan { horizon, ..six_letters() }, [0x00, 0x01, 0x15, 0x2A, 0x3F, 0x40]);
+    }
+    f.tables(&longest_plan(), [0, 0x3F]);
+    f.note("random small plans, seed 71: all false, all true, a random mask, one that names a letter the plan lacks");
+    let mut random = Random(71);
+    for _ in 0..20 {
+        let plan = small_plan(&mut random, 9, 6, 10);
+        let all = plan.all_letters();
+        f.tables(&plan, [0, all, random.mask(all), 1 << plan.letters]);
+    }
+    f.note("plans that some tree keeps, seed 71 going on, the horizon 63 at the last: all false, all true, two random masks");
+    for i in 1..=21 {
+        let (plan, _) = fitted(&mut random, 3 * i, 8 - i % 4, 6 + i % 7, 200);
+        let all = plan.all_letters();
+        f.tables(&plan, [0, all, random.mask(all), random.mask(all)]);
+    }
+    f.note("random larger plans, seed 71 going on: all false, all true, a random mask, any byte");
+    for _ in 0..16 {
+        let plan = small_plan(&mut random, 63, 8, 16);
+        f.tables(&plan, [0, plan.all_letters(), random.mask(plan.all_letters()), random.mask(255)]);
+    }
+    f.note("faulty records: 2, 3, 4 come before 8");
+    for faults in FAULTS {
+        f.record(&six_letters(), faults);
+        f.hex(b'd', &[255]);
+    }
+}
+
 // ---- the files ----
 
 type Maker = fn(&mut Cases);
-const FILES: [(&str, &[u8], Maker); 6] = [
+const FILES: [(&str, &[u8], Maker); 7] = [
     ("texts", include_bytes!("../../hand/texts.cases"), texts),
     ("records", b"", records),
     ("checks", include_bytes!("../../hand/checks.cases"), checks),
     ("runs", include_bytes!("../../hand/runs.cases"), runs),
     ("verdicts", include_bytes!("../../hand/verdicts.cases"), verdicts),
     ("screens", include_bytes!("../../hand/screens.cases"), screens),
+    ("differences", include_bytes!("../../hand/differences.cases"), differences),
 ];
 
 /// Each file's name and bytes, the expected output last.

@@ -15,8 +15,18 @@ use std::process::exit;
 pub const GROUPS: [&str; 5] = ["K", "edge", "small", "full", "worst"];
 
 /// The calls but for the search, which has a table of its own.
-pub const CALLS: [&str; 9] =
-    ["check_tree", "show", "report", "read_plan", "write_plan", "read_tree", "write_tree", "least_schedule", "screen"];
+pub const CALLS: [&str; 10] = [
+    "check_tree",
+    "show",
+    "report",
+    "read_plan",
+    "write_plan",
+    "read_tree",
+    "write_tree",
+    "least_schedule",
+    "differences",
+    "screen",
+];
 
 pub fn fail(message: impl Display, status: i32) -> ! {
     eprintln!("benchmark: {message}");

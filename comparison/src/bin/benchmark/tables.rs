@@ -191,7 +191,7 @@ fn inputs() -> String {
         "\
 Inputs: the vectors of crates/vectors. A plan text that is refused counts for read_plan only; search has every other
 vector. Trees are the vectors' own. show, report: at the start, and at the last node of the first and of the last path.
-least_schedule: every setting of the letters.
+least_schedule, differences: every setting of the letters.
 search is measured without the reference, which does not finish the hard plans. Quarter, 3 quarters, 9 of 10: such a
 share of the plans takes so long at most. The run fails where a search does not give the bytes of the vector's output,
 or takes the proved library longer than {}. A row of the other calls: the median and the worst of its inputs.",

@@ -9,6 +9,7 @@ use std::path::{Path, PathBuf};
 
 const PLAN_BYTES: usize = 400;
 const TREE_BYTES: usize = 573;
+const TABLE_BYTES: usize = 128;
 const PLAN_TEXT_BYTES: usize = 1025;
 const TREE_TEXT_BYTES: usize = 1724;
 
@@ -39,7 +40,7 @@ impl Vector {
             "read_tree" if self.plan_and_tree().is_some() => {
                 vec![Case::ReadTree { text: self.output.clone(), tree: vec![0; TREE_BYTES] }]
             }
-            "search" | "write_plan" | "screen" | "least_schedule" => {
+            "search" | "write_plan" | "screen" | "least_schedule" | "differences" => {
                 self.plan().map_or(vec![], |plan| plan_cases(call, &plan))
             }
             _ => self.plan_and_tree().map_or(vec![], |(plan, tree)| tree_cases(call, &plan, tree)),
@@ -104,13 +105,14 @@ pub fn search_case(plan: &Plan) -> Case {
 fn plan_cases(call: &str, plan: &Plan) -> Vec<Case> {
     let settings = 0..1u8 << plan.letters;
     let record = plan.to_bytes();
+    let scheduled = |values| Case::LeastSchedule { plan: record.clone(), values, schedule: vec![0; 8] };
+    let tabled = |values| Case::Differences { plan: record.clone(), values, table: vec![0; TABLE_BYTES] };
     match call {
         "search" => vec![search_case(plan)],
         "write_plan" => vec![Case::WritePlan { plan: record, text: vec![0; PLAN_TEXT_BYTES] }],
         "screen" => vec![Case::Screen { plan: record }],
-        "least_schedule" => {
-            settings.map(|values| Case::LeastSchedule { plan: record.clone(), values, schedule: vec![0; 8] }).collect()
-        }
+        "least_schedule" => settings.map(scheduled).collect(),
+        "differences" => settings.map(tabled).collect(),
         _ => vec![],
     }
 }
