@@ -13,13 +13,13 @@ use Rattle.plan.proofs.SliceLaws.{length-listed, get-listed}
 use Rattle.differences.specs.declared.Row.{Row}
 use Rattle.differences.specs.Answers.{zeroRow}
 use Rattle.differences.proofs.AnswerLaws.{Eight}
-use Rattle.answers.specs.Tables.{entryBytes, rowBytes, noRow, tableBytes, bitsIn, rowsIn}
+use Rattle.answers.specs.Tables.{entryBytes, rowBytes, tableBytes, bitsIn, rowsIn}
 
 pub row-length : (row : Row) → length (rowBytes row) ≡ 16
 row-length row = join-length 8 2 (λ y. entryBytes (getD (row .to) y 0)) (λ y lt. refl)
 
 pub table-length : (rows : List Row) → length (tableBytes rows) ≡ 128
-table-length rows = join-length 8 16 (λ x. rowBytes (getD rows x noRow)) (λ x lt. row-length (getD rows x noRow))
+table-length rows = join-length 8 16 (λ x. rowBytes (getD rows x zeroRow)) (λ x lt. row-length (getD rows x zeroRow))
 
 -- 64 zeros are 128 bytes of zero
 pub zero-bytes : tableBytes (replicate 8 zeroRow) ≡ replicate 128 0
@@ -38,7 +38,7 @@ entry-there bs at bits r e =
     rw (high, low) (omega arith)
 
 -- inside a list the default does not matter
-same-default : {A : Type 0} (l : List A) (d e : A) (x : ℕ) → x < length l → getD l x d ≡ getD l x e
+pub same-default : {A : Type 0} (l : List A) (d e : A) (x : ℕ) → x < length l → getD l x d ≡ getD l x e
 same-default [] d e x lt = absurd (omega arith)
 same-default (a ∷ l) d e zero lt = refl
 same-default (a ∷ l) d e (suc x) lt = same-default l d e x (omega arith)
@@ -54,7 +54,7 @@ module _ (rows : List Row) (behind : List ℕ) where
   bs = tableBytes rows ++ behind
 
   abbrev row : ℕ → Row
-  row x = getD rows x noRow
+  row x = getD rows x zeroRow
 
   bits-back : (x y : ℕ) → x < 8 → y < 8 → bitsIn bs (16 * x + 2 * y) ≡ getD (row x .to) y 0
   bits-back x y lx ly =
@@ -78,8 +78,6 @@ module _ (rows : List Row) (behind : List ℕ) where
   unfolding rowsIn
   table-back eight =
       listed-same 8 _ row (λ x lx.
-      let wide : length (row x .to) ≡ 8 =
-      ap (λ (r : Row). length (r .to)) (same-default rows noRow zeroRow x (rw (eight .long) lx)) ∙ eight .wide x lx in
       ap {B = Row} (λ (to : List ℕ). record { to = to })
-      (listed-same 8 _ (λ y. getD (row x .to) y 0) (λ y ly. bits-back x y lx ly) ∙ listed-all 0 8 (row x .to) wide))
-      ∙ listed-all noRow 8 rows (eight .long)
+      (listed-same 8 _ (λ y. getD (row x .to) y 0) (λ y ly. bits-back x y lx ly) ∙ listed-all 0 8 (row x .to) (eight .wide x lx)))
+      ∙ listed-all zeroRow 8 rows (eight .long)

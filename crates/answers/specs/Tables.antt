@@ -6,6 +6,7 @@ use lib.ListN.{getD}
 use Rattle.network.specs.Mask.{joinBelow}
 use Rattle.plan.specs.Plan.{listed}
 use Rattle.differences.specs.declared.Row.{Row}
+use Rattle.differences.specs.Answers.{zeroRow}
 
 abbrev pub tableLength : ℕ
 tableLength = 128
@@ -18,13 +19,9 @@ entryBytes bits = bits / 256 ∷ bits % 256 ∷ []
 abbrev pub rowBytes : Row → List ℕ
 rowBytes row = joinBelow 8 (λ y. entryBytes (getD (row .to) y 0))
 
--- what stands past the eight rows
-abbrev pub noRow : Row
-noRow = record { to = [] }
-
 -- the table: row by row
 abbrev pub tableBytes : List Row → List ℕ
-tableBytes rows = joinBelow 8 (λ x. rowBytes (getD rows x noRow))
+tableBytes rows = joinBelow 8 (λ x. rowBytes (getD rows x zeroRow))
 
 -- the same, read: the 16 bits that stand at a place, and the rows; bytes that are missing are zero
 abbrev pub bitsIn : List ℕ → ℕ → ℕ

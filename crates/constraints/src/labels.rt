@@ -1,11 +1,12 @@
 // The label test, by the letters known so far. What a label asks is known to this file alone.
 ghost use mathlib.Core.Path.{_≡_};
 ghost use Rattle.network.specs.Mask.{bit};
+ghost use Rattle.network.specs.Network.{holds};
 ghost use Rattle.network.specs.TestLabel.{labelTest, isHolds};
 ghost use Rattle.constraints.specs.Labels.{label, testedAs};
 
 // Under a setting all letters are known.
-pub const ALL_LETTERS: u8 = 255;
+const ALL_LETTERS: u8 = 255;
 
 // What the letters known so far say of a label (card 1's terms): it holds, it fails, or it is open.
 pub enum Tested {
@@ -38,4 +39,11 @@ pub fn says_holds(test: Tested) -> bool
         Tested::Fails => false,
         Tested::Open => false,
     }
+}
+
+// Whether the label holds under a setting: the letters of `values` are true, the others false.
+pub fn label_holds(need: u8, truth: u8, values: u8) -> bool
+    ensures { λ r. ⌜ r ≡ holds (bit values) (label need truth) ⌝ }
+{
+    says_holds(label_test(need, truth, values, ALL_LETTERS))
 }

@@ -13,15 +13,20 @@ ghost use Rattle.network.specs.Network.{atMost, slotsIn};
 ghost use Rattle.network.specs.SoFar.{keptSoFar, keepsSoFar};
 ghost use Rattle.plan.specs.Plan.{signed, constraintOf, networkOf};
 
+// 16 bits in two's complement: from the half of their range on they are negative.
+const HALF_RANGE: u32 = 32768;
+
+const RANGE: u32 = 65536;
+
 // Whether y - x is at most the bound, which is in two's complement.
 fn at_most(x: u8, y: u8, bound: u16) -> bool
     ensures { λ r. ⌜ r ≡ atMost x y (signed bound) ⌝ }
 {
     let d = bound as u32;
-    if d < 32768 {
+    if d < HALF_RANGE {
         return y as u32 <= x as u32 + d;
     }
-    y as u32 + 65536 <= x as u32 + d
+    y as u32 + RANGE <= x as u32 + d
 }
 
 // The slot of point x; 0 past the array.

@@ -10,7 +10,7 @@ ghost use Rattle.network.specs.Mask.{bit};
 ghost use Rattle.network.specs.Limits.{biased, lowered, limited, allLimited};
 ghost use Rattle.plan.specs.Plan.{signed, constraintOf, networkOf};
 
-// 2 to the 24, so that no limit is negative, and none passes 2 to the 25 while differences are added.
+// 2 to the 24: so no limit is negative while differences are added, and 32 bits hold the sum of two.
 pub const BIAS: u32 = 16777216;
 
 pub fn lesser(a: u32, b: u32) -> u32
@@ -26,7 +26,7 @@ pub fn lesser(a: u32, b: u32) -> u32
 fn biased(bound: u16) -> u32
     ensures { λ r. ⌜ r ≡ biased (signed bound) ⌝ }
 {
-    (bound as u32 + 32768) % 65536 + (BIAS - 32768)
+    (bound as u32 + crate::HALF_RANGE) % crate::RANGE + (BIAS - crate::HALF_RANGE)
 }
 
 // The limit at column y of a row is v at most. Past the row nothing changes.
@@ -58,7 +58,7 @@ fn lowered(limits: [[u32; 8]; 8], x: u8, y: u8, v: u32) -> [[u32; 8]; 8]
 fn limited(c: Constraint, limits: [[u32; 8]; 8], values: u8) -> [[u32; 8]; 8]
     ensures { λ r. ⌜ r ≡ limited (bit values) limits (constraintOf c) ⌝ }
 {
-    if !labels::says_holds(labels::label_test(c.need, c.truth, values, labels::ALL_LETTERS)) {
+    if !labels::label_holds(c.need, c.truth, values) {
         return limits;
     }
     lowered(limits, c.from, c.to, biased(c.bound))

@@ -18,8 +18,8 @@ ghost use Rattle.constraints.specs.Rows.{rowsSay};
 fn least_from(y: u8, bound: u16) -> u32
     ensures { λ r. ⌜ r ≡ leastFrom y (signed bound) ⌝ }
 {
-    let t = y as u32 + 32768;
-    let d = (bound as u32 + 32768) % 65536;
+    let t = y as u32 + crate::HALF_RANGE;
+    let d = (bound as u32 + crate::HALF_RANGE) % crate::RANGE;
     if t < d {
         return 0;
     }
@@ -54,7 +54,7 @@ fn take_turn(c: Constraint, slots: &mut [u8; 8], values: u8, cap: u8)
     requires { ⌜ length (now slots) ≡ 8 ⌝ }
     ensures { λ r. ⌜ now (slots .exit) ≡ turn cap (bit values) (now (slots .entry)) (constraintOf c) ⌝ }
 {
-    if !labels::says_holds(labels::label_test(c.need, c.truth, values, labels::ALL_LETTERS)) {
+    if !labels::label_holds(c.need, c.truth, values) {
         return;
     }
     let least = least_from(crate::slot_in(slots, c.to), c.bound);

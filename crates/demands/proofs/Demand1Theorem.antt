@@ -60,7 +60,7 @@ use Rattle.verdict.specs.Verdict.{verdictFault, verdictOf, leastSchedule, scree
 use Rattle.verdict.specs.Answers.{Fixed, none}
 use Rattle.verdict.proofs.AnswerLaws.{eight-answer, screen-plan-fault, fine-answer, mask-fault}
 use Rattle.differences.specs.Answers.{Differences, noTable}
-use Rattle.differences.specs.Table.{tableFault, tableOf, differenceTable}
+use Rattle.differences.specs.Tabling.{tableFault, tableOf, differenceTable}
 use Rattle.differences.proofs.AnswerLaws as table
 use Rattle.answer_text.specs.AnswerText.{answerText}
 use Rattle.answer_text.proofs.AnswerTextTheorems.{by-input}

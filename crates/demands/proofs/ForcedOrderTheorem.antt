@@ -38,7 +38,7 @@ use Rattle.differences.specs.declared.Tabled.the-variants as tabled
 use Rattle.differences.specs.declared.DifferenceTable.{DifferenceTable}
 use Rattle.differences.specs.Answers.{Differences, zeroRow, tabling, tableAnswer}
 use Rattle.differences.specs.Says.{entry, Tells, Says}
-use Rattle.differences.specs.Table.{tableOf, tableFault, differenceTable}
+use Rattle.differences.specs.Tabling.{tableOf, tableFault, differenceTable}
 use Rattle.differences.proofs.AnswerLaws as table
 use Rattle.differences.proofs.DifferencesTheorems.{scheduled-exactly, says, one-table, before-exactly}
 use Rattle.demands.specs.ThisPlanner.{planner}

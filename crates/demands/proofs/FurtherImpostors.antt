@@ -35,7 +35,7 @@ use Rattle.differences.specs.declared.Row.{Row}
 use Rattle.differences.specs.declared.Tabled.the-variants as tabled
 use Rattle.differences.specs.Answers.{Differences, zeroRow, noTable}
 use Rattle.differences.specs.Says.{bitsAt}
-use Rattle.differences.specs.Table.{differenceTable}
+use Rattle.differences.specs.Tabling.{differenceTable}
 use Rattle.differences.proofs.Cases.{k1-to-k5, entries-are}
 use Rattle.demands.specs.Planner.{Planner}
 use Rattle.demands.specs.Demand2.{Demand2}

@@ -12,7 +12,7 @@ use Rattle.following.specs.Calls.{begun, afterCalls}
 use Rattle.following.specs.ThisRun.{theRun}
 use Rattle.following.specs.Following.{callsIn}
 use Rattle.verdict.specs.Verdict.{leastSchedule, screened}
-use Rattle.differences.specs.Table.{differenceTable}
+use Rattle.differences.specs.Tabling.{differenceTable}
 use Rattle.answer_text.specs.AnswerText.{answerText}
 use Rattle.demands.specs.Planner.{Planner}
 

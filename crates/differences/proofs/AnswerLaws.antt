@@ -15,7 +15,7 @@ use Rattle.network.specs.Fixed.{Setting, Schedulable}
 use Rattle.network.specs.Differences.{Largest}
 use Rattle.network.specs.Limits.{bias, biased, limitAt}
 use Rattle.network.proofs.Booleans.{by-test, clash, ltb-yes, ltb-no}
-use Rattle.network.proofs.LimitLaws.{Moderate}
+use Rattle.network.proofs.LimitLaws.{In16Bits}
 use Rattle.masks.proofs.ByteLaws.{says-among}
 use Rattle.plan.specs.declared.Plan.{Plan}
 use Rattle.plan.specs.declared.Refusal.{Refusal}
@@ -38,9 +38,9 @@ use Rattle.differences.specs.declared.Tabled.the-variants as tabled
 use Rattle.differences.specs.declared.DifferenceTable.{DifferenceTable}
 use Rattle.differences.specs.Answers.{Differences, zeroRow, noTable, tabling, tableAnswer}
 use Rattle.differences.specs.Says.{bitsAt, Tells}
-use Rattle.differences.specs.Table.{closed, steady, shown, tableFrom, tableOf, tableFault, differenceTable}
+use Rattle.differences.specs.Tabling.{closed, noNegativeCycle, shown, tableFrom, tableOf, tableFault, differenceTable}
 use Rattle.differences.proofs.IntegerLaws.{shown-as}
-use Rattle.differences.proofs.ExactLaws.{steady-exactly, steady-make, scheduled-steady, some-schedule, exact, in-range}
+use Rattle.differences.proofs.ExactLaws.{no-cycle-is, no-cycle-make, scheduled-no-cycle, some-schedule, exact, fits-16-bits}
 
 -- ---- rows
 
@@ -133,7 +133,7 @@ no-table-eight = record { eight = zero-rows; zeros = λ e. refl }
 table-from-eight : (n : ℕ) (t : List (List ℕ)) → EightRows (tableFrom n t)
 unfolding tableFrom
 table-from-eight n t =
-    by-test (steady n t)
+    by-test (noNegativeCycle n t)
     (λ y. rw y (record { eight = shown-eight n t; zeros = λ e. clash refl e }))
     (λ z. rw z no-table-eight)
 
@@ -148,16 +148,16 @@ pub record Decides (net : Network) (s : Scenario) (v : Differences) : Type 0 whe
   pub found : v .scheduled ≡ true → Tells net s (v .rows)
   pub missing : v .scheduled ≡ false → Schedulable net s → ⊥
 
--- a bound of 16 bits is moderate
-moderate-bound : (b : ℕ) → bias ≤ biased (signed b) + 32768
+-- a bound of 16 bits is in-16-bits
+bound-in-16-bits : (b : ℕ) → bias ≤ biased (signed b) + 32768
 unfolding biased signed
-moderate-bound b =
+bound-in-16-bits b =
     by-test (ltb b 32768)
     (λ y. rw y (omega arith))
     (λ z. rw z (by-cases (decLt b 32768) (λ lt. clash (ltb-yes b 32768 lt) z) (λ ge. omega arith)))
 
-pub moderate : (p : Plan) → Each Moderate (networkOf p .constraints)
-moderate p = each-listed Moderate (p .constraints) (λ j. constraintOf (constraintAt p j)) (λ j lt. moderate-bound (constraintAt p j .bound))
+pub in-16-bits : (p : Plan) → Each In16Bits (networkOf p .constraints)
+in-16-bits p = each-listed In16Bits (p .constraints) (λ j. constraintOf (constraintAt p j)) (λ j lt. bound-in-16-bits (constraintAt p j .bound))
 
 module _ (p : Plan) (wf : WellFormed p) (s : Scenario) where
   abbrev net : Network
@@ -175,32 +175,32 @@ module _ (p : Plan) (wf : WellFormed p) (s : Scenario) where
   some : 1 ≤ p .points
   some = wf .head .some-point
 
-  tells : steady (p .points) t ≡ true → Tells net s (shown (p .points) t)
+  tells : noNegativeCycle (p .points) t ≡ true → Tells net s (shown (p .points) t)
   tells y =
-      let st = steady-exactly (p .points) t y in
+      let st = no-cycle-is (p .points) t y in
       let is = is-network p wf in
       let eight = shown-eight (p .points) t in
       record {
-        some-schedule = some-schedule net s is few early (moderate p) st 0 some;
+        some-schedule = some-schedule net s is few early (in-16-bits p) st 0 some;
         eight-rows = eight .long;
         of-eight = eight .wide;
         of-16-bits = bits-small (p .points) t;
         largest = λ x y lx ly.
-            let range = in-range net s is few early (moderate p) st x y lx ly in
+            let range = fits-16-bits net s is few early (in-16-bits p) st x y lx ly in
             let same = ap signed (bits-used (p .points) t few x y lx ly) ∙ shown-as (limitAt t x y) (range .0) (range .1) in
-            subst (Largest net s x y) (sym same) (exact net s is few early (moderate p) st x y lx ly);
+            subst (Largest net s x y) (sym same) (exact net s is few early (in-16-bits p) st x y lx ly);
         unused = bits-unused (p .points) t;
       }
 
   pub decides : Decides net s (tableOf net s)
   unfolding tableOf tableFrom
   decides =
-      by-test (steady (p .points) t)
+      by-test (noNegativeCycle (p .points) t)
       (λ y. rw y (record { found = λ e. tells y; missing = λ z. clash refl z }))
       (λ z. rw z (record {
         found = λ e. clash e refl;
         missing = λ e schedule.
-            clash (steady-make (p .points) t (scheduled-steady net s (is-network p wf) few early (moderate p) schedule)) z;
+            clash (no-cycle-make (p .points) t (scheduled-no-cycle net s (is-network p wf) few early (in-16-bits p) schedule)) z;
       }))
 
 -- ---- what a call says where it answers a
@@ -292,7 +292,7 @@ module _ (p : Plan) (m : ℕ) where
   unfolding differenceTable answered tableOf tableFrom
   unused-answer x y past =
       by-test (eqb (tableFault p m) 0)
-      (λ e. rw e (by-test (steady (p .points) (closed (networkOf p) (bit m)))
+      (λ e. rw e (by-test (noNegativeCycle (p .points) (closed (networkOf p) (bit m)))
       (λ st. rw st (bits-unused (p .points) (closed (networkOf p) (bit m)) x y past))
       (λ no. rw no (zero-at x y))))
       (λ z. rw z (zero-at x y))
@@ -301,11 +301,11 @@ module _ (p : Plan) (m : ℕ) where
 
 module _ (net : Network) (s : Scenario) where
   pub is-table :
-      steady (net .points) (closed net s) ≡ true → _≡_ {A = Differences}
+      noNegativeCycle (net .points) (closed net s) ≡ true → _≡_ {A = Differences}
       (record { scheduled = true; rows = shown (net .points) (closed net s) }) (tableOf net s)
   unfolding tableOf tableFrom
   is-table y = rw y refl
 
-  pub is-none : steady (net .points) (closed net s) ≡ false → noTable ≡ tableOf net s
+  pub is-none : noNegativeCycle (net .points) (closed net s) ≡ false → noTable ≡ tableOf net s
   unfolding tableOf tableFrom
   is-none z = rw z refl

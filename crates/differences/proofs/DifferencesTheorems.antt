@@ -29,7 +29,7 @@ use Rattle.differences.specs.declared.Tabled.the-variants as tabled
 use Rattle.differences.specs.declared.DifferenceTable.{DifferenceTable}
 use Rattle.differences.specs.Answers.{zeroRow, tabling, tableAnswer}
 use Rattle.differences.specs.Says.{bitsAt, entry, Tells, Says}
-use Rattle.differences.specs.Table.{tableOf, differenceTable}
+use Rattle.differences.specs.Tabling.{tableOf, differenceTable}
 use Rattle.differences.proofs.IntegerLaws.{antisymm, sub-neg, neg-sub, one-way}
 use Rattle.differences.proofs.AnswerLaws.{Eight, EightRows, table-eight, Decides, decides, fine-answer, mask-fault, plan-fault, eight-answer}
 use Rattle.differences.proofs.AnswerLaws.{said-fault, said-value, said-refused, said-eight, said-zeros}

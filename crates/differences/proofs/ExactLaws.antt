@@ -1,5 +1,5 @@
--- Laws of closed limits: they are exact. Each bounds its difference in every schedule and is attained in one, unless a point would have to
--- be before itself, and then there is no schedule. Only the checker need believe this file.
+-- Laws of closed limits: they are exact. Each bounds its difference in every schedule and is attained in one, unless the limit of a point and
+-- itself is negative, and then there is no schedule. Only the checker need believe this file.
 use mathlib.Core.Path.{_≡_, ap, _∙_}
 use mathlib.Core.Logic.{by-cases}
 use mathlib.Core.Bool.{true}
@@ -19,12 +19,12 @@ use Rattle.network.specs.Differences.{difference, Largest}
 use Rattle.network.specs.Limits.{bias, limitAt, allLimited}
 use Rattle.network.proofs.Booleans.{leb-yes, leb-is}
 use Rattle.network.proofs.BelowLaws.{all-at, all-make}
-use Rattle.network.proofs.LimitLaws.{Square, Within, Moderate, all-below, all-moderate, kept-within, within-kept}
+use Rattle.network.proofs.LimitLaws.{Square, Within, In16Bits, all-below, all-in-16-bits, kept-within, within-kept}
 use Rattle.plan.proofs.SliceLaws.{length-listed, get-listed}
-use Rattle.differences.specs.Table.{unconstrained, passes, closed, steady}
-use Rattle.differences.specs.Ranges.{Fair}
+use Rattle.differences.specs.Tabling.{unconstrained, passes, closed, noNegativeCycle}
+use Rattle.differences.specs.Ranges.{InRange}
 use Rattle.differences.proofs.IntegerLaws.{sub-le, sub-eq}
-use Rattle.differences.proofs.PassLaws.{Steady, Passing, passing}
+use Rattle.differences.proofs.PassLaws.{NoNegativeCycle, Passing, passing}
 
 -- ---- the limits of the horizon alone
 
@@ -103,26 +103,26 @@ least-below f (suc n) x l = least-of f n
 
 -- ---- closed limits
 
-pub steady-exactly : (n : ℕ) (t : List (List ℕ)) → steady n t ≡ true → Steady n t
-unfolding steady
-steady-exactly n t y x lx = leb-is bias (limitAt t x x) (all-at n (λ x. leb bias (limitAt t x x)) y x lx)
+pub no-cycle-is : (n : ℕ) (t : List (List ℕ)) → noNegativeCycle n t ≡ true → NoNegativeCycle n t
+unfolding noNegativeCycle
+no-cycle-is n t y x lx = leb-is bias (limitAt t x x) (all-at n (λ x. leb bias (limitAt t x x)) y x lx)
 
-pub steady-make : (n : ℕ) (t : List (List ℕ)) → Steady n t → steady n t ≡ true
-unfolding steady
-steady-make n t st = all-make n (λ x. leb bias (limitAt t x x)) (λ x lx. leb-yes bias (limitAt t x x) (st x lx))
+pub no-cycle-make : (n : ℕ) (t : List (List ℕ)) → NoNegativeCycle n t → noNegativeCycle n t ≡ true
+unfolding noNegativeCycle
+no-cycle-make n t st = all-make n (λ x. leb bias (limitAt t x x)) (λ x lx. leb-yes bias (limitAt t x x) (st x lx))
 
 -- before the passes, from the limits of the horizon
-pub fair :
-    (s : Scenario) (h : ℕ) (cs : List Constraint) → h ≤ 63 → Each Moderate cs → Fair 32768 (allLimited s (unconstrained h) cs)
-fair s h cs early moderate x y lx ly =
+pub in-range :
+    (s : Scenario) (h : ℕ) (cs : List Constraint) → h ≤ 63 → Each In16Bits cs → InRange 32768 (allLimited s (unconstrained h) cs)
+in-range s h cs early in-16-bits x y lx ly =
     let least = free-least h x y lx ly in
     let most = free-most h x y lx ly in
     let below = all-below s (unconstrained h) cs x y in
-    (all-moderate s (unconstrained h) cs moderate x y (omega arith), omega arith)
+    (all-in-16-bits s (unconstrained h) cs in-16-bits x y (omega arith), omega arith)
 
 module _
     (net : Network) (s : Scenario) (wf : IsNetwork net) (few : net .points ≤ 8) (early : net .horizon ≤ 63)
-    (moderate : Each Moderate (net .constraints))
+    (in-16-bits : Each In16Bits (net .constraints))
   where
     abbrev n : ℕ
     n = net .points
@@ -136,7 +136,7 @@ module _
 
     passed-all : Passing d n n t
     unfolding closed
-    passed-all = passing d n few (fair s (net .horizon) (net .constraints) early moderate) n (le-refl _)
+    passed-all = passing d n few (in-range s (net .horizon) (net .constraints) early in-16-bits) n (le-refl _)
 
     -- no schedule exceeds a limit
     upper : (ψ : Schedule) → ScheduleFor net s ψ → Within n t ψ
@@ -144,11 +144,11 @@ module _
         passed-all .sound ψ
         (kept-within net s (unconstrained (net .horizon)) ψ n (sc .kept) (free-within (net .horizon) n ψ few (sc .within)))
 
-    -- where there is a schedule no point is before itself
-    pub scheduled-steady : Schedulable net s → Steady n t
-    scheduled-steady some x lx = let w = upper (some .slots) (some .schedule) x x lx lx in omega arith
+    -- where there is a schedule no limit of a point and itself is negative
+    pub scheduled-no-cycle : Schedulable net s → NoNegativeCycle n t
+    scheduled-no-cycle some x lx = let w = upper (some .slots) (some .schedule) x x lx lx in omega arith
 
-    module _ (st : Steady n t) where
+    module _ (st : NoNegativeCycle n t) where
       triangle : (k x y : ℕ) → k < n → x < n → y < n → limitAt t x y + bias ≤ limitAt t x k + limitAt t k y
       triangle k x y lk lx ly = passed-all .closed st k x y lk (omega arith) (omega arith)
 
@@ -183,7 +183,7 @@ module _
       read-schedule x v lx lv least =
           record {
             within = λ z lz. let a = triangle v x z lv lx lz in let b = reach v z lv lz in omega arith;
-            kept = within-kept net s (unconstrained (net .horizon)) (reading x v) wf moderate 8 few (free-square (net .horizon))
+            kept = within-kept net s (unconstrained (net .horizon)) (reading x v) wf in-16-bits 8 few (free-square (net .horizon))
                 (λ i j li lj.
                 let a = triangle i x j li lx lj in
                 let b = under i j li lj in
@@ -216,8 +216,8 @@ module _
               }
 
       -- 16 bits hold it
-      pub in-range : (x y : ℕ) → x < n → y < n → (bias ≤ limitAt t x y + 32768) × (limitAt t x y < bias + 32768)
-      in-range x y lx ly =
+      pub fits-16-bits : (x y : ℕ) → x < n → y < n → (bias ≤ limitAt t x y + 32768) × (limitAt t x y < bias + 32768)
+      fits-16-bits x y lx ly =
           let some = some-schedule x lx in
           let w = upper (some .slots) (some .schedule) x y lx ly in
           let i = some .schedule .within x lx in

@@ -1,5 +1,5 @@
--- Laws of the passes: limits stay between bounds, no schedule within them is lost, and where no point would have to be before itself the
--- limits are closed under every point passed. Only the checker need believe this file.
+-- Laws of the passes: limits stay in their range, no schedule within them is lost, and where no limit of a point and itself is negative they
+-- are closed under every point passed. Only the checker need believe this file.
 use mathlib.Core.Path.{_≡_, refl}
 use mathlib.Core.Logic.{_⊎_, inl, inr, ⊎-elim, by-cases}
 use mathlib.Core.List.{List, []}
@@ -15,8 +15,8 @@ use Rattle.network.specs.Limits.{bias, limitAt}
 use Rattle.network.proofs.LimitLaws.{Within}
 use Rattle.plan.specs.Plan.{listed}
 use Rattle.plan.proofs.SliceLaws.{get-listed}
-use Rattle.differences.specs.Table.{passed, passes}
-use Rattle.differences.specs.Ranges.{Joins, Fair}
+use Rattle.differences.specs.Tabling.{passed, passes}
+use Rattle.differences.specs.Ranges.{Joins, InRange}
 
 -- an entry of a table that is listed
 pub listed-at :
@@ -37,22 +37,22 @@ cut a s h =
     (λ ge. (omega arith, omega arith, inr (omega arith)))
 
 -- two limits before the pass over k can be added
-pub joins : (t : List (List ℕ)) (k x : ℕ) → k < 8 → x < 8 → Fair (32768 * 2 ^ k) t → Joins (limitAt t x k) (getD t k [])
-joins t k x lk lx fair y ly =
-    let a = fair x k lx lk in
-    let b = fair k y lk ly in
+pub joins : (t : List (List ℕ)) (k x : ℕ) → k < 8 → x < 8 → InRange (32768 * 2 ^ k) t → Joins (limitAt t x k) (getD t k [])
+joins t k x lk lx in-range y ly =
+    let a = in-range x k lx lk in
+    let b = in-range k y lk ly in
     let few : 2 ^ k ≤ 128 = pow-mono {j = 7} (omega arith) in
     (omega arith, omega arith)
 
 pass-at :
-    (t : List (List ℕ)) (k x y : ℕ) → k < 8 → x < 8 → y < 8 → Fair (32768 * 2 ^ k) t →
+    (t : List (List ℕ)) (k x y : ℕ) → k < 8 → x < 8 → y < 8 → InRange (32768 * 2 ^ k) t →
     Cut (limitAt t x y) (limitAt t x k + limitAt t k y) (limitAt (passed k t) x y)
 unfolding passed
-pass-at t k x y lk lx ly fair =
+pass-at t k x y lk lx ly in-range =
     rw (listed-at (λ i j. min (limitAt t i j) (limitAt t i k + limitAt t k j - bias)) x y lx ly)
-    (cut (limitAt t x y) (limitAt t x k + limitAt t k y) (joins t k x lk lx fair y ly .0))
+    (cut (limitAt t x y) (limitAt t x k + limitAt t k y) (joins t k x lk lx in-range y ly .0))
 
--- a schedule within three limits is within the one that is taken through
+-- a schedule within three limits is within the one that is lowered to the sum of two
 through : (i j k a b s r : ℕ) → j + bias ≤ i + a → k + bias ≤ i + b → j + bias ≤ k + s → Cut a (b + s) r → j + bias ≤ i + r
 through i j k a b s r p q t (c, e, f) = ⊎-elim (λ h. omega arith) (λ h. omega arith) f
 
@@ -72,25 +72,25 @@ own-point eij eik ekj dij dik dkj dkk (a, b, _) (_, _, f) (_, _, g) l =
 
 -- ---- all passes
 
--- no point before itself
-abbrev pub Steady : ℕ → List (List ℕ) → Type 0
-Steady n t = (x : ℕ) → x < n → bias ≤ limitAt t x x
+-- no limit of a point and itself is negative
+abbrev pub NoNegativeCycle : ℕ → List (List ℕ) → Type 0
+NoNegativeCycle n t = (x : ℕ) → x < n → bias ≤ limitAt t x x
 
 -- the limits t behind the passes over the points below k, from the limits d of n points
 pub record Passing (d : List (List ℕ)) (n k : ℕ) (t : List (List ℕ)) : Type 0 where
   pub below : (x y : ℕ) → x < 8 → y < 8 → limitAt t x y ≤ limitAt d x y
   pub sound : (ψ : Schedule) → Within n d ψ → Within n t ψ
-  pub closed : Steady n t → (m x y : ℕ) → m < k → x < 8 → y < 8 → limitAt t x y + bias ≤ limitAt t x m + limitAt t m y
-  pub fair : Fair (32768 * 2 ^ k) t
+  pub closed : NoNegativeCycle n t → (m x y : ℕ) → m < k → x < 8 → y < 8 → limitAt t x y + bias ≤ limitAt t x m + limitAt t m y
+  pub in-range : InRange (32768 * 2 ^ k) t
 
-module _ (d : List (List ℕ)) (n : ℕ) (most : n ≤ 8) (start : Fair 32768 d) where
+module _ (d : List (List ℕ)) (n : ℕ) (most : n ≤ 8) (start : InRange 32768 d) where
   passing-start : Passing d n 0 d
   passing-start =
       record {
         below = λ x y lx ly. le-refl _;
         sound = λ ψ h. h;
         closed = λ st m x y lm. absurd (omega arith);
-        fair = start;
+        in-range = start;
       }
 
   module _ (k : ℕ) (t : List (List ℕ)) (lk : k < n) (f : Passing d n k t) where
@@ -101,15 +101,15 @@ module _ (d : List (List ℕ)) (n : ℕ) (most : n ≤ 8) (start : Fair 32768 d)
     k8 = omega arith
 
     at : (x y : ℕ) → x < 8 → y < 8 → Cut (limitAt t x y) (limitAt t x k + limitAt t k y) (limitAt e x y)
-    at x y lx ly = pass-at t k x y k8 lx ly (f .fair)
+    at x y lx ly = pass-at t k x y k8 lx ly (f .in-range)
 
-    steady-before : Steady n e → Steady n t
-    steady-before st x l = le-trans (st x l) (at x x (omega arith) (omega arith) .0)
+    no-cycle-before : NoNegativeCycle n e → NoNegativeCycle n t
+    no-cycle-before st x l = le-trans (st x l) (at x x (omega arith) (omega arith) .0)
 
-    closed-next : Steady n e → (m x y : ℕ) → m < suc k → x < 8 → y < 8 → limitAt e x y + bias ≤ limitAt e x m + limitAt e m y
+    closed-next : NoNegativeCycle n e → (m x y : ℕ) → m < suc k → x < 8 → y < 8 → limitAt e x y + bias ≤ limitAt e x m + limitAt e m y
     closed-next st m x y lm lx ly =
-        let own = steady-before st k lk in
-        let g = f .closed (steady-before st) in
+        let own = no-cycle-before st k lk in
+        let g = f .closed (no-cycle-before st) in
         by-cases (decLt m k)
         (λ l. let m8 : m < 8 = omega arith in
         earlier _ _ _ _ _ _ _ _ _ _ _ (at x y lx ly) (at x m lx m8) (at m y m8 ly)
@@ -117,12 +117,12 @@ module _ (d : List (List ℕ)) (n : ℕ) (most : n ≤ 8) (start : Fair 32768 d)
         (λ l. let q : m ≡ k = omega arith in
         rw q (own-point _ _ _ _ _ _ _ (at x y lx ly) (at x k lx k8) (at k y k8 ly) own))
 
-    fair-next : Fair (32768 * 2 ^ suc k) e
-    fair-next x y lx ly =
+    in-range-next : InRange (32768 * 2 ^ suc k) e
+    in-range-next x y lx ly =
         let twice : 2 ^ suc k ≡ 2 * 2 ^ k = omega (arith, pow-suc 2 k) in
-        let a = f .fair x y lx ly in
-        let b = f .fair x k lx k8 in
-        let c = f .fair k y k8 ly in
+        let a = f .in-range x y lx ly in
+        let b = f .in-range x k lx k8 in
+        let c = f .in-range k y k8 ly in
         let w = at x y lx ly in
         (⊎-elim (λ h. omega arith) (λ h. omega arith) (w .2), omega arith)
 
@@ -134,7 +134,7 @@ module _ (d : List (List ℕ)) (n : ℕ) (most : n ≤ 8) (start : Fair 32768 d)
               through (ψ x) (ψ y) (ψ k) _ _ _ _ (f .sound ψ h x y lx ly) (f .sound ψ h x k lx lk) (f .sound ψ h k y lk ly)
               (at x y (omega arith) (omega arith));
           closed = closed-next;
-          fair = fair-next;
+          in-range = in-range-next;
         }
 
   pub passing : (k : ℕ) → k ≤ n → Passing d n k (passes k d)

@@ -15,7 +15,7 @@ ghost use Rattle.network.specs.Mask.{bit};
 ghost use Rattle.plan.specs.Answer.{fine};
 ghost use Rattle.plan.specs.Plan.{listed, networkOf};
 ghost use Rattle.differences.specs.Answers.{zeroRow, tabling, tableAnswer};
-ghost use Rattle.differences.specs.Table.{shown, tableOf, differenceTable};
+ghost use Rattle.differences.specs.Tabling.{shown, tableOf, differenceTable};
 
 // A table, card 2's "none", or why the call is refused.
 pub enum Tabled {
@@ -82,7 +82,7 @@ fn without_table(tabled: Tabled) -> DifferenceTable
     }
 }
 
-// The table of a plan that was judged, under a setting that was.
+// The table of a plan that was judged, under a mask that sets its letters.
 fn tabulate(plan: Plan, values: u8) -> DifferenceTable
     requires { ⌜ (plan .horizon ≤ 63) × (plan .points ≤ 8) × (plan .constraints ≤ 64) ⌝ }
     ensures { λ r. ⌜ tableAnswer r ≡ fine (tableOf (networkOf plan) (bit values)) ⌝ }
@@ -90,7 +90,7 @@ fn tabulate(plan: Plan, values: u8) -> DifferenceTable
     let n = plan.points;
     let limits = limits::all_limited(plan, passes::unconstrained(plan.horizon), values);
     let closed = passes::close(limits, n);
-    if !passes::is_steady(closed, n) {
+    if !passes::no_negative_cycle(closed, n) {
         return without_table(Tabled::Nothing);
     }
     let rows = shown_rows(closed, n);

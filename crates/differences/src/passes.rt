@@ -6,8 +6,8 @@ ghost use Prim.Native.Nat.{_+_, _-_, _*_, _^_, min, _≤_, _<_};
 ghost use lib.ListN.{getD};
 ghost use Rattle.network.specs.Limits.{bias};
 ghost use Rattle.plan.specs.Plan.{listed};
-ghost use Rattle.differences.specs.Table.{unconstrained, passed, passes, steady};
-ghost use Rattle.differences.specs.Ranges.{Joins, Fair};
+ghost use Rattle.differences.specs.Tabling.{unconstrained, passed, passes, noNegativeCycle};
+ghost use Rattle.differences.specs.Ranges.{Joins, InRange};
 
 // The limits that the horizon alone sets: no point is after itself, and none is more than the horizon after another.
 pub fn unconstrained(horizon: u8) -> [[u32; 8]; 8]
@@ -24,7 +24,8 @@ pub fn unconstrained(horizon: u8) -> [[u32; 8]; 8]
     limits
 }
 
-// A row whose limits are taken through an intermediate point where that is less: `first` leads to it, `via` is its row.
+// The row of X behind the pass over a point: each limit is lowered to `first`, the limit of that point minus X, and its own in `via`, the row
+// of that point, where their sum is less.
 fn tighten_row(row: [u32; 8], first: u32, via: [u32; 8]) -> [u32; 8]
     requires { ⌜ Joins first via ⌝ }
     ensures { λ r. ⌜ r ≡ listed 8 (λ y. min (getD row y 0) (first + getD via y 0 - bias)) ⌝ }
@@ -38,9 +39,9 @@ fn tighten_row(row: [u32; 8], first: u32, via: [u32; 8]) -> [u32; 8]
     tight
 }
 
-// One pass: every limit taken through point k where that is less.
+// The pass over point k: each limit of Y - X is lowered to the sum of those of k - X and Y - k, where that is less.
 fn tighten(limits: [[u32; 8]; 8], k: u8) -> [[u32; 8]; 8]
-    requires { ⌜ (k < 8) × Fair (32768 * 2 ^ k) limits ⌝ }
+    requires { ⌜ (k < 8) × InRange (32768 * 2 ^ k) limits ⌝ }
     ensures { λ r. ⌜ r ≡ passed k limits ⌝ }
 {
     let via = limits[k as usize];
@@ -57,7 +58,7 @@ fn tighten(limits: [[u32; 8]; 8], k: u8) -> [[u32; 8]; 8]
 
 // All passes, one for each of n points.
 pub fn close(limits: [[u32; 8]; 8], n: u8) -> [[u32; 8]; 8]
-    requires { ⌜ (n ≤ 8) × Fair 32768 limits ⌝ }
+    requires { ⌜ (n ≤ 8) × InRange 32768 limits ⌝ }
     ensures { λ r. ⌜ r ≡ passes n limits ⌝ }
 {
     let mut tight = limits;
@@ -70,10 +71,10 @@ pub fn close(limits: [[u32; 8]; 8], n: u8) -> [[u32; 8]; 8]
     tight
 }
 
-// Whether none of n points would have to be before itself.
-pub fn is_steady(limits: [[u32; 8]; 8], n: u8) -> bool
+// Whether no limit of a point and itself is negative, of n points: else there is a cycle of constraints that no schedule keeps.
+pub fn no_negative_cycle(limits: [[u32; 8]; 8], n: u8) -> bool
     requires { ⌜ n ≤ 8 ⌝ }
-    ensures { λ r. ⌜ r ≡ steady n limits ⌝ }
+    ensures { λ r. ⌜ r ≡ noNegativeCycle n limits ⌝ }
 {
     let mut x: u8 = 0;
     while x < n {

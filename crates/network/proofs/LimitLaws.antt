@@ -27,8 +27,8 @@ abbrev pub Within : ℕ → List (List ℕ) → Schedule → Type 0
 Within n t ψ = (x y : ℕ) → x < n → y < n → ψ y + bias ≤ ψ x + limitAt t x y
 
 -- the bound is at least -32,768, as 16 bits have it
-abbrev pub Moderate : Constraint → Type 0
-Moderate c = bias ≤ biased (c .bound) + 32768
+abbrev pub In16Bits : Constraint → Type 0
+In16Bits c = bias ≤ biased (c .bound) + 32768
 
 -- ---- one limit
 
@@ -131,13 +131,13 @@ module _ (s : Scenario) where
   all-below t (c ∷ cs) i j = le-trans (all-below (limited s t c) cs i j) (limited-below t c i j)
 
   -- no limit falls below -32,768
-  pub all-moderate :
-      (t : List (List ℕ)) (cs : List Constraint) → Each Moderate cs → (i j : ℕ) → bias ≤ limitAt t i j + 32768 →
+  pub all-in-16-bits :
+      (t : List (List ℕ)) (cs : List Constraint) → Each In16Bits cs → (i j : ℕ) → bias ≤ limitAt t i j + 32768 →
       bias ≤ limitAt (allLimited s t cs) i j + 32768
   unfolding allLimited Each
-  all-moderate t [] m i j h = h
-  all-moderate t (c ∷ cs) m i j h =
-      all-moderate (limited s t c) cs (m .1) i j
+  all-in-16-bits t [] m i j h = h
+  all-in-16-bits t (c ∷ cs) m i j h =
+      all-in-16-bits (limited s t c) cs (m .1) i j
       (by-limited t c i j (λ v. bias ≤ v + 32768) h (λ y e f.
       let q = m .0 in
       let k : bias ≤ limitAt t (c .from) (c .to) + 32768 = rw (e, f) at h in
@@ -158,7 +158,7 @@ module _ (s : Scenario) where
 
   -- a schedule that exceeds no limit keeps them
   within-all :
-      (net : Network) (ψ : Schedule) (t : List (List ℕ)) (cs : List Constraint) → Each (InNetwork net) cs → Each Moderate cs →
+      (net : Network) (ψ : Schedule) (t : List (List ℕ)) (cs : List Constraint) → Each (InNetwork net) cs → Each In16Bits cs →
       (n : ℕ) → net .points ≤ n → Square n t → Within (net .points) (allLimited s t cs) ψ →
       KeepsEach net ψ s cs
   unfolding allLimited Each
@@ -179,6 +179,6 @@ module _ (net : Network) (s : Scenario) (t : List (List ℕ)) (ψ : Schedule) wh
   kept-within n k = all-within s net n ψ t (net .constraints) (keeps-is net ψ s .0 k)
 
   pub within-kept :
-      IsNetwork net → Each Moderate (net .constraints) → (n : ℕ) → net .points ≤ n → Square n t →
+      IsNetwork net → Each In16Bits (net .constraints) → (n : ℕ) → net .points ≤ n → Square n t →
       Within (net .points) (allLimited s t (net .constraints)) ψ → keeps net ψ s ≡ true
   within-kept wf m n le sq h = keeps-is net ψ s .1 (within-all s net ψ t (net .constraints) (wf .in-network) m n le sq h)

@@ -87,7 +87,7 @@ feasible ψ [] = true
 feasible ψ (c ∷ cs) = satisfies ψ c && feasible ψ cs
 
 -- The schedule is feasible for the projection. Document 01 says that it keeps every relevant constraint: each one whose label holds.
--- What a constraint is, is known to this definition, to the raise (Raise.antt) and to what is kept so far (SoFar.antt); theorems tie those
--- to this one, and everything else goes through them.
+-- What a constraint is, is known to this definition, to the raise (Raise.antt), to what is kept so far (SoFar.antt) and to the limits of
+-- differences (Limits.antt); theorems tie those to this one, and everything else goes through them.
 unfoldable pub keeps : Network → Schedule → Scenario → Bool
 keeps net ψ s = feasible ψ (projection net s)

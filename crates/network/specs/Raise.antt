@@ -1,5 +1,5 @@
--- Definitions: the raise, which moves points to the slots that their constraints ask. Like `keeps` and SoFar.antt it knows what a constraint
--- is.
+-- Definitions: the raise, which moves points to the slots that their constraints ask. Like `keeps`, SoFar.antt and Limits.antt it knows
+-- what a constraint is.
 -- Computed: pinned by `least-found` of verdict/proofs/VerdictTheorems.antt.
 use mathlib.Core.Bool.{cond}
 use mathlib.Core.List.{List, [], _∷_}

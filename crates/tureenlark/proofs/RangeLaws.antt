@@ -31,7 +31,7 @@ use Rattle.checker.specs.Checker.{checkFault}
 use Rattle.search.specs.Search.{searchAnswer}
 use Rattle.search.proofs.SearchTheorems.{fault-is, count-bounds}
 use Rattle.verdict.specs.Verdict.{leastSchedule, screened}
-use Rattle.differences.specs.Table.{differenceTable}
+use Rattle.differences.specs.Tabling.{differenceTable}
 use Rattle.answer_text.specs.AnswerText.{answerText}
 use Rattle.answer_text.proofs.AnswerTextTheorems.{answer-fits}
 use Rattle.demands.specs.EachCall.{OneOf}

@@ -25,7 +25,7 @@ use Rattle.differences.specs.declared.Row.{Row}
 use Rattle.differences.specs.declared.Tabled.the-variants as tabled
 use Rattle.differences.specs.Answers.{Differences, zeroRow, noTable}
 use Rattle.differences.specs.Says.{bitsAt, Says}
-use Rattle.differences.specs.Table.{differenceTable}
+use Rattle.differences.specs.Tabling.{differenceTable}
 use Rattle.differences.proofs.AnswerLaws.{eight-answer, fine-answer}
 use Rattle.differences.proofs.DifferencesTheorems.{before-exactly}
 use Rattle.demands.specs.EachCall.{AnswersTable}

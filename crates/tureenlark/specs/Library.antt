@@ -26,7 +26,7 @@ use Rattle.following.specs.Following.{callsIn, zeroStep, followedRecord}
 use Rattle.verdict.specs.Answers.{none}
 use Rattle.verdict.specs.Verdict.{leastSchedule, screened}
 use Rattle.differences.specs.Answers.{noTable}
-use Rattle.differences.specs.Table.{differenceTable}
+use Rattle.differences.specs.Tabling.{differenceTable}
 use Rattle.answer_text.specs.AnswerText.{answerText}
 use Rattle.records.specs.Records.{planIn, planBytes, planLength, historyIn, historyBytes, historyLength}
 use Rattle.answers.specs.Numbers.{numbered, answerNumber, toldNumber, faultNumber}
@@ -183,7 +183,7 @@ abbrev pub tableFor : List ℕ → ℕ → List ℕ
 tableFor plan values =
     unlessShort (planShort plan) (tableBytes (differenceTable (planIn plan) values .value .rows)) (tableBytes (noTable .rows))
 
--- They fill the table's place as a schedule's slots do theirs.
+-- They fill the table's place wherever it is there, under 10 for a short plan too; a place that is short stays as it was.
 abbrev pub differencesLeft : List ℕ → ℕ → List ℕ → List ℕ
 differencesLeft plan values table = filled (shortFault tableLength table) (tableFor plan values) table
 

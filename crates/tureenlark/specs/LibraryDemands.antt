@@ -104,7 +104,7 @@ pub record LibraryDemands (L : Exported) : Type 0 where
       Ten (L .differences plan values table) × (L .differencesLeft plan values table ≡ table)
   pub differences-short :
       (plan : List ℕ) (values : ℕ) (table : List ℕ) → length plan < planLength → tableLength ≤ length table →
-      Ten (L .differences plan values table) × (L .differencesLeft plan values table ≡ replicate 128 0 ++ drop tableLength table)
+      Ten (L .differences plan values table) × (L .differencesLeft plan values table ≡ replicate tableLength 0 ++ drop tableLength table)
   -- ---- Plans
   pub judge : (plan : List ℕ) → planLength ≤ length plan → AnswersJudge (planIn plan) (faultIn (L .judgePlan plan))
   pub read-plan :
@@ -216,7 +216,7 @@ pub record LibraryDemands (L : Exported) : Type 0 where
   -- (128 zeros beside "none" and any refusal)
   pub differences-zero :
       (plan : List ℕ) (values : ℕ) (table : List ℕ) → tableLength ≤ length table → ¬ (L .differences plan values table ≡ 1) →
-      L .differencesLeft plan values table ≡ replicate 128 0 ++ drop tableLength table
+      L .differencesLeft plan values table ≡ replicate tableLength 0 ++ drop tableLength table
   pub differences-says :
       (plan : List ℕ) (values : ℕ) (table : List ℕ) → planLength ≤ length plan → tableLength ≤ length table → WellFormed (planIn plan) →
       Setting (networkOf (planIn plan)) values →

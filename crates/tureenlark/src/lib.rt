@@ -16,14 +16,12 @@ ghost use Rattle.tureenlark.specs.Library.{showNumber, showLeft, reportN
 ghost use Rattle.tureenlark.specs.Library.{leastScheduleNumber, leastScheduleLeft, screenNumber, answerTextNumber, answerTextLeft};
 ghost use Rattle.tureenlark.specs.Library.{differencesNumber, differencesLeft};
 
-// How many bytes an instruction has, eight steps, a schedule, and a table of differences.
+// How many bytes an instruction has, eight steps, and a schedule.
 const INSTRUCTION: usize = 3;
 
 const STEPS: usize = 32;
 
 const SCHEDULE: usize = 8;
-
-const TABLE: usize = 128;
 
 // 1 where the record is a well-formed plan; or refused with 2, 3, 4.
 #[no_mangle]
@@ -221,11 +219,11 @@ pub extern "C" fn tureenlark_differences(plan: &[u8], values: u8, table: &mut [u
     ensures answer { λ r. ⌜ r ≡ differencesNumber (now (plan .entry)) values (now (table .entry)) ⌝ }
     ensures buffer { λ r. ⌜ now (table .exit) ≡ differencesLeft (now (plan .entry)) values (now (table .entry)) ⌝ }
 {
-    if table.len() < TABLE {
+    if table.len() < tables::LENGTH {
         return numbers::refused(Refusal::Buffer);
     }
     if plan.len() < plan_record::LENGTH {
-        storing::put_bytes(table, 0, &[0; TABLE]);
+        storing::put_bytes(table, 0, &[0; tables::LENGTH]);
         return numbers::refused(Refusal::Buffer);
     }
     let answer = differences::difference_table(plan_record::plan_in(plan), values);

@@ -11,7 +11,7 @@ use Rattle.plan.specs.Plan.{listed}
 use Rattle.plan.proofs.SliceLaws.{filledTo, fill-start, fill-next, fill-end}
 use Rattle.differences.specs.declared.Row.{Row}
 use Rattle.differences.specs.Answers.{zeroRow}
-use Rattle.differences.specs.Table.{shown}
+use Rattle.differences.specs.Tabling.{shown}
 use Rattle.differences.proofs.shown_rows.Statement.{statement}
 use Rattle.differences.proofs.shown_rows.Tie as tie
 

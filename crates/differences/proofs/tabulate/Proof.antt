@@ -1,4 +1,4 @@
--- `tabulate`: the limits closed, and whether they are steady. Only the checker need believe this file.
+-- `tabulate`: the limits closed, and whether they are noNegativeCycle. Only the checker need believe this file.
 use mathlib.Core.Path.{_≡_, sym, ap, _∙_, subst}
 use mathlib.Core.Bool.{true}
 use mathlib.Core.List.{List}
@@ -11,10 +11,10 @@ use Rattle.plan.specs.Answer.{Answer, fine}
 use Rattle.plan.specs.Plan.{networkOf}
 use Rattle.differences.specs.declared.Row.{Row}
 use Rattle.differences.specs.Answers.{Differences}
-use Rattle.differences.specs.Table.{unconstrained, passes, closed, steady, shown}
-use Rattle.differences.specs.Ranges.{Fair}
-use Rattle.differences.proofs.ExactLaws.{fair}
-use Rattle.differences.proofs.AnswerLaws.{moderate, is-table, is-none}
+use Rattle.differences.specs.Tabling.{unconstrained, passes, closed, noNegativeCycle, shown}
+use Rattle.differences.specs.Ranges.{InRange}
+use Rattle.differences.proofs.ExactLaws.{in-range}
+use Rattle.differences.proofs.AnswerLaws.{in-16-bits, is-table, is-none}
 use Rattle.differences.proofs.tabulate.Statement.{statement}
 use Rattle.differences.proofs.tabulate.Tie as tie
 
@@ -36,16 +36,16 @@ close-requires : tie.Need-close-requires
 close-requires c κs =
     let p = c .before .before .args .plan in
     let s = bit (c .before .before .args .values) in
-    let bounded = fair s (p .horizon) (networkOf p .constraints) (c .before .before .pre .0) (moderate p) in
-    (c .before .before .pre .1, subst (Fair 32768) (sym (limits-are c)) bounded)
+    let bounded = in-range s (p .horizon) (networkOf p .constraints) (c .before .before .pre .0) (in-16-bits p) in
+    (c .before .before .pre .1, subst (InRange 32768) (sym (limits-are c)) bounded)
 
 -- .. and behind them
 closed-is : (c : tie.After-close) → let a = c .before .before .before .args in c .close .result ≡ closed (networkOf (a .plan)) (bit (a .values))
 unfolding closed
 closed-is c = c .close .ensures ∙ ap (passes (c .before .before .before .args .plan .points)) (limits-are (c .before))
 
-is-steady-requires : tie.Need-is-steady-requires
-is-steady-requires c κs = search needs
+no-negative-cycle-requires : tie.Need-no-negative-cycle-requires
+no-negative-cycle-requires c κs = search needs
 
 without-table-requires : tie.Need-without-table-requires
 without-table-requires c κs = search needs
@@ -54,9 +54,9 @@ returns : tie.Need-returns
 returns c =
     let p = c .before .before .before .before .before .before .args .plan in
     let s = bit (c .before .before .before .before .before .before .args .values) in
-    let said = denied (c .before .before .is-steady .ensures) (c .before .if1 .taken) in
+    let said = denied (c .before .before .no-negative-cycle .ensures) (c .before .if1 .taken) in
     c .without-table .ensures
-    ∙ ap fine (is-none (networkOf p) s (ap (steady (p .points)) (sym (closed-is (c .before .before .before))) ∙ said))
+    ∙ ap fine (is-none (networkOf p) s (ap (noNegativeCycle (p .points)) (sym (closed-is (c .before .before .before))) ∙ said))
 
 shown-rows-requires : tie.Need-shown-rows-requires
 shown-rows-requires c κs = search needs
@@ -65,10 +65,10 @@ returns-2 : tie.Need-returns-2
 returns-2 c =
     let p = c .before .before .before .before .before .before .args .plan in
     let s = bit (c .before .before .before .before .before .before .args .values) in
-    let said = granted (c .before .before .is-steady .ensures) (c .before .if1 .left) in
+    let said = granted (c .before .before .no-negative-cycle .ensures) (c .before .if1 .left) in
     let rows = c .shown-rows .ensures ∙ ap (shown (p .points)) (closed-is (c .before .before .before)) in
     ap {B = Answer Differences} (λ (r : List Row). fine (record { scheduled = true; rows = r })) rows
-    ∙ ap fine (is-table (networkOf p) s (ap (steady (p .points)) (sym (closed-is (c .before .before .before))) ∙ said))
+    ∙ ap fine (is-table (networkOf p) s (ap (noNegativeCycle (p .points)) (sym (closed-is (c .before .before .before))) ∙ said))
 
 pub tabulate-spec : {M : Type 1} → statement M
 tabulate-spec =
@@ -77,7 +77,7 @@ tabulate-spec =
     unconstrained-requires
     all-limited-requires
     close-requires
-    is-steady-requires
+    no-negative-cycle-requires
     without-table-requires
     returns
     shown-rows-requires

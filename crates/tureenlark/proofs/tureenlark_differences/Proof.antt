@@ -11,7 +11,7 @@ use Rattle.network.specs.Mask.{digit}
 use Rattle.plan.specs.declared.Plan.{Plan}
 use Rattle.plan.specs.Answer.{Answer}
 use Rattle.plan.specs.Faults.{putAt}
-use Rattle.differences.specs.Table.{differenceTable}
+use Rattle.differences.specs.Tabling.{differenceTable}
 use Rattle.differences.specs.Answers.{noTable, Differences, tableAnswer}
 use Rattle.records.specs.Records.{planIn}
 use Rattle.answers.specs.Numbers.{tableNumber}

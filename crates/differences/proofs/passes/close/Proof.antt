@@ -3,7 +3,7 @@ use mathlib.Core.Path.{_≡_, sym, ap, _∙_}
 use Prim.Native.Nat.{ℕ, _-_, _≤_}
 use native.Mathlib.Omega.{arith}
 use borrow.Author.Needs.{needs}
-use Rattle.differences.specs.Table.{passed, passes}
+use Rattle.differences.specs.Tabling.{passed, passes}
 use Rattle.differences.proofs.PassLaws.{passing, passes-start, passes-next}
 use Rattle.differences.proofs.passes.close.Statement.{statement}
 use Rattle.differences.proofs.passes.close.Tie as tie
@@ -22,7 +22,7 @@ tighten-requires c κs =
     let a = c .before .before .args in
     let l = c .before .loop in
     let most : a .n ≤ 8 = c .before .before .pre .0 in
-    (omega arith, rw (l .inv .1) (passing (a .limits) (a .n) most (c .before .before .pre .1) (l .k) (l .inv .0) .fair))
+    (omega arith, rw (l .inv .1) (passing (a .limits) (a .n) most (c .before .before .pre .1) (l .k) (l .inv .0) .in-range))
 
 add-k : tie.Need-add-k Inv-loop μ-loop
 add-k c = search needs

@@ -8,7 +8,7 @@ use borrow.Author.Needs.{needs}
 use Rattle.network.specs.Limits.{bias, limitAt}
 use Rattle.plan.specs.Plan.{listed}
 use Rattle.plan.proofs.SliceLaws.{filledTo, fill-start, fill-next, fill-end}
-use Rattle.differences.specs.Table.{passed}
+use Rattle.differences.specs.Tabling.{passed}
 use Rattle.differences.proofs.PassLaws.{joins}
 use Rattle.differences.proofs.passes.tighten.Statement.{statement}
 use Rattle.differences.proofs.passes.tighten.Tie as tie

@@ -7,7 +7,7 @@ use borrow.Author.Needs.{needs}
 use lib.ListN.{set, replicate}
 use Rattle.network.specs.Limits.{bias}
 use Rattle.plan.proofs.SliceLaws.{filledTo, fill-start, fill-next, fill-end}
-use Rattle.differences.specs.Table.{unconstrained}
+use Rattle.differences.specs.Tabling.{unconstrained}
 use Rattle.differences.proofs.passes.unconstrained.Statement.{statement}
 use Rattle.differences.proofs.passes.unconstrained.Tie as tie
 

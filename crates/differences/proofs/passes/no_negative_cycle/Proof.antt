@@ -1,4 +1,4 @@
--- `is_steady`: the points passed are not before themselves, and one that is decides. Only the checker need believe this file.
+-- `no_negative_cycle`: the points passed are not before themselves, and one that is decides. Only the checker need believe this file.
 use mathlib.Core.Path.{_≡_, sym}
 use mathlib.Core.Bool.{Bool, true}
 use mathlib.Core.List.{List}
@@ -10,9 +10,9 @@ use Rattle.network.specs.Mask.{allBelow}
 use Rattle.network.specs.Limits.{bias, limitAt}
 use Rattle.network.proofs.Booleans.{leb-yes, leb-no}
 use Rattle.network.proofs.BelowLaws.{all-start, all-next, all-fails}
-use Rattle.differences.specs.Table.{steady}
-use Rattle.differences.proofs.passes.is_steady.Statement.{statement}
-use Rattle.differences.proofs.passes.is_steady.Tie as tie
+use Rattle.differences.specs.Tabling.{noNegativeCycle}
+use Rattle.differences.proofs.passes.no_negative_cycle.Statement.{statement}
+use Rattle.differences.proofs.passes.no_negative_cycle.Tie as tie
 
 -- point x is not before itself
 abbrev kept : List (List ℕ) → ℕ → Bool
@@ -46,7 +46,7 @@ array-read-if1 : tie.Need-array-read-if1 Inv-loop μ-loop
 array-read-if1 c = search needs
 
 returns : tie.Need-returns Inv-loop μ-loop
-unfolding steady
+unfolding noNegativeCycle
 returns c =
     let a = c .before .before .before .before .args in
     let l = c .before .before .before .loop in
@@ -65,14 +65,14 @@ loop-again c =
     (search needs, all-next (kept t) (l .x) (l .inv .1) (leb-yes bias (limitAt t (l .x) (l .x)) (omega arith)))
 
 returns-2 : tie.Need-returns-2 Inv-loop μ-loop
-unfolding steady
+unfolding noNegativeCycle
 returns-2 c =
     let l = c .before .loop in
     let e : l .x ≡ c .before .before .args .n = omega arith in
     sym (rw e at (l .inv .1))
 
-pub is-steady-spec : {M : Type 1} → statement M
-is-steady-spec =
+pub no-negative-cycle-spec : {M : Type 1} → statement M
+no-negative-cycle-spec =
     tie.close
     (tie.spec
     Inv-loop

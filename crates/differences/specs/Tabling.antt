@@ -22,7 +22,7 @@ use Rattle.differences.specs.Answers.{Differences, noTable}
 unfoldable pub unconstrained : ℕ → List (List ℕ)
 unconstrained horizon = listed 8 (λ x. set (replicate 8 (bias + horizon)) x bias)
 
--- the pass over point k: each limit taken through k where that is less
+-- the pass over point k: each limit of Y − X lowered to the sum of those of k − X and Y − k, where that is less
 unfoldable pub passed : ℕ → List (List ℕ) → List (List ℕ)
 passed k t = listed 8 (λ x. listed 8 (λ y. min (limitAt t x y) (limitAt t x k + limitAt t k y - bias)))
 
@@ -34,9 +34,9 @@ passes (suc k) t = passed k (passes k t)
 unfoldable pub closed : Network → Scenario → List (List ℕ)
 closed net s = passes (net .points) (allLimited s (unconstrained (net .horizon)) (net .constraints))
 
--- none of n points would have to be before itself
-unfoldable pub steady : ℕ → List (List ℕ) → Bool
-steady n t = allBelow n (λ x. leb bias (limitAt t x x))
+-- no limit of a point and itself is negative, of n points
+unfoldable pub noNegativeCycle : ℕ → List (List ℕ) → Bool
+noNegativeCycle n t = allBelow n (λ x. leb bias (limitAt t x x))
 
 -- ---- the table
 
@@ -45,7 +45,7 @@ unfoldable pub shown : ℕ → List (List ℕ) → List Row
 shown n t = listed 8 (λ x. record { to = listed 8 (λ y. cond (ltb x n && ltb y n) (limitAt t x y % 65536) 0) })
 
 unfoldable pub tableFrom : ℕ → List (List ℕ) → Differences
-tableFrom n t = cond (steady n t) (record { scheduled = true; rows = shown n t }) noTable
+tableFrom n t = cond (noNegativeCycle n t) (record { scheduled = true; rows = shown n t }) noTable
 
 unfoldable pub tableOf : Network → Scenario → Differences
 tableOf net s = tableFrom (net .points) (closed net s)
