@@ -101,9 +101,9 @@ size_t tureenlark_least_schedule(const uint8_t *plan, size_t plan_length, uint8_
 
 /* 1, and the first 128 bytes of `table` are the differences where the letters of `values` are true and the others false: row X, column Y,
  * two bytes from 16 X + 2 Y on (high byte, then low byte, two's complement), is the largest value that time of Y minus time of X takes in
- * any schedule; rows and columns of unused points are zero. X is forced strictly before Y exactly where row Y, column X is at most -1. 0
- * where there is no schedule; or refused with 2, 3, 4, 8. With 0 and with every refusal, 10 for a short plan too, the 128 bytes are zero;
- * where `table` has fewer, no byte changes. */
+ * any schedule within the horizon; rows and columns of unused points are zero. X is forced strictly before Y exactly where row Y, column X
+ * is at most -1. 0 where there is no schedule; or refused with 2, 3, 4, 8. With 0 and with every refusal, 10 for a short plan too, the 128
+ * bytes are zero; where `table` has fewer, no byte changes. */
 size_t tureenlark_differences(const uint8_t *plan, size_t plan_length, uint8_t values, uint8_t *table, size_t table_length);
 
 /* 1 where every setting of all letters has a schedule, 0 where one has none; or refused with 2, 3, 4. */

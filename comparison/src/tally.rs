@@ -25,7 +25,7 @@ impl Tally {
     pub fn count(&mut self, case: &Case, expected: &Expected) {
         let outcome = outcome(case, expected);
         let labels = lengths(case, expected).into_iter().chain(details(case, expected)).chain(searched(case, expected));
-        for label in labels.chain(ordered(case, expected)).chain([outcome]) {
+        for label in labels.chain(tabled(case, expected)).chain([outcome]) {
             *self.0.entry(label).or_default() += 1;
         }
     }
@@ -177,14 +177,16 @@ fn searched(case: &Case, expected: &Expected) -> Vec<String> {
     }
 }
 
-/// Of a table: whether it forces some point before another.
-fn ordered(case: &Case, expected: &Expected) -> Option<String> {
+/// Of a table: whether it forces some point before another, and whether it uses row and column 7.
+fn tabled(case: &Case, expected: &Expected) -> Vec<String> {
     match (case, expected.answer) {
-        (Case::Differences { .. }, Ok(1)) => {
+        (Case::Differences { plan, .. }, Ok(1)) => {
             let forced = expected.after[1][..TABLE_BYTES].chunks(2).any(|entry| entry[0] >= 0x80);
-            Some(if forced { "an order is forced" } else { "no order is forced" }.into())
+            let order = if forced { "an order is forced" } else { "no order is forced" };
+            let eight = (Plan::from_bytes(plan).points == 8).then_some("table of eight points");
+            [order].into_iter().chain(eight).map(String::from).collect()
         }
-        _ => None,
+        _ => Vec::new(),
     }
 }
 

@@ -74,6 +74,16 @@ fn plans_are_read() {
     }
 }
 
+/// Of well-formed plans, under no letter true and under all of them.
+#[test]
+fn differences_are_those_of_the_reference() {
+    let plans: Vec<Plan> = all().iter().filter_map(|vector| read_plan(&vector.input).ok()).collect();
+    assert!(plans.len() >= 170, "{} plans", plans.len());
+    for (plan, values) in plans.iter().flat_map(|plan| [0, plan.all_letters()].map(|values| (plan, values))) {
+        compare(&Case::Differences { plan: plan.to_bytes(), values, table: vec![0xEE; 135] });
+    }
+}
+
 #[test]
 fn texts_are_read_and_written() {
     for (Vector { input, output, .. }, plan, tree) in trees() {

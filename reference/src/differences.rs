@@ -16,35 +16,52 @@ pub fn schedules(plan: &Plan, scenario: u8) -> Vec<Schedule> {
         .collect()
 }
 
-/// In row X the largest differences over the schedules listed for point X; none where there are no schedules.
-fn largest(listed: &[Vec<Schedule>]) -> Option<Table> {
+/// The largest value of time of Y minus time of X over these schedules; none where there are none.
+fn largest(schedules: &[Schedule], x: usize, y: usize) -> Option<i16> {
+    schedules.iter().map(|schedule| schedule[y] as i16 - schedule[x] as i16).max()
+}
+
+/// Row X over these schedules; zeros past the points.
+fn row(schedules: &[Schedule], x: usize, points: usize) -> Option<[i16; 8]> {
+    let mut row = [0; 8];
+    for (y, entry) in row[..points].iter_mut().enumerate() {
+        *entry = largest(schedules, x, y)?;
+    }
+    Some(row)
+}
+
+/// In row X the largest differences over the schedules listed for point X; none where a list is empty.
+fn table(listed: &[Vec<Schedule>]) -> Option<Table> {
     let mut table = [[0; 8]; 8];
     for (x, schedules) in listed.iter().enumerate() {
-        for y in 0..listed.len() {
-            table[x][y] = schedules.iter().map(|schedule| schedule[y] as i16 - schedule[x] as i16).max()?;
-        }
+        table[x] = row(schedules, x, listed.len())?;
     }
     Some(table)
 }
 
 /// The table over all feasible schedules.
-pub fn table_by_enumeration(plan: &Plan, scenario: u8) -> Option<Table> {
-    largest(&vec![schedules(plan, scenario); plan.points as usize])
+fn table_by_enumeration(plan: &Plan, scenario: u8) -> Option<Table> {
+    table(&vec![schedules(plan, scenario); plan.points as usize])
+}
+
+/// Each relevant constraint in turn keeps `to` no later than `from` plus the bound.
+fn lower(plan: &Plan, scenario: u8, slots: &mut [i32; 8]) {
+    for c in plan.used_constraints().iter().filter(|c| c.label_holds(scenario)) {
+        let highest = slots[c.from as usize] + c.bound as i32;
+        slots[c.to as usize] = slots[c.to as usize].min(highest);
+    }
 }
 
 /// The latest slot of each point over the feasible schedules that have point X in this slot, or none where there is no
-/// such schedule. Slots are lowered from the horizon: a relevant constraint keeps `to` no later than `from` plus the
-/// bound. No slot falls below that of such a schedule, and where nothing is lowered any more the slots are one.
+/// such schedule. Slots are lowered from the horizon: no slot falls below that of such a schedule, and where nothing is
+/// lowered any more the slots are one.
 fn latest_with(plan: &Plan, scenario: u8, x: usize, slot: u8) -> Option<Schedule> {
     let mut slots = [0i32; 8];
     slots[..plan.points as usize].fill(plan.horizon as i32);
     slots[x] = slot as i32;
     loop {
         let before = slots;
-        for c in plan.used_constraints().iter().filter(|c| c.label_holds(scenario)) {
-            let highest = slots[c.from as usize] + c.bound as i32;
-            slots[c.to as usize] = slots[c.to as usize].min(highest);
-        }
+        lower(plan, scenario, &mut slots);
         if slots[x] < slot as i32 || slots.iter().any(|&slot| slot < 0) {
             return None;
         }
@@ -57,7 +74,7 @@ fn latest_with(plan: &Plan, scenario: u8, x: usize, slot: u8) -> Option<Schedule
 /// The same by lowering: with point X in any one slot, point Y is farthest behind it in the latest schedule.
 pub fn table_by_lowering(plan: &Plan, scenario: u8) -> Option<Table> {
     let latest = |x| (0..=plan.horizon).filter_map(|slot| latest_with(plan, scenario, x, slot)).collect();
-    largest(&(0..plan.points as usize).map(latest).collect::<Vec<_>>())
+    table(&(0..plan.points as usize).map(latest).collect::<Vec<_>>())
 }
 
 /// 2, 3, 4, 8; else the table, or none.

@@ -1,6 +1,6 @@
 //! The table of differences: K1 to K10, two ways to the same table, and what it says of the schedules themselves.
 
-use reference::differences::{differences, schedules, table_by_enumeration, table_by_lowering, Table};
+use reference::differences::{differences, schedules, table_by_lowering, Table};
 use reference::known::k;
 use reference::plan::*;
 use reference::random::{random_plan, small_plan, Random};
@@ -65,6 +65,14 @@ fn forced(plan: &Plan, schedules: &[Schedule], table: &Table) -> usize {
     pairs.filter(before).count()
 }
 
+/// Rows and columns of unused points are zero, and so is the diagonal.
+fn zeros(plan: &Plan, table: &Table) -> bool {
+    let used = |x: usize| x < plan.points as usize;
+    let zero = |x: usize, y: usize| x == y || !used(x) || !used(y);
+    (0..64).all(|i| !zero(i / 8, i % 8) || table[i / 8][i % 8] == 0)
+}
+
+/// The plans are tiny, so that `differences` looks at every schedule.
 #[test]
 fn the_methods_agree() {
     let mut random = Random(5);
@@ -72,37 +80,34 @@ fn the_methods_agree() {
     for _ in 0..2500 {
         let plan = tiny_plan(&mut random);
         for mask in masks_inside(plan.all_letters()) {
-            let (found, schedules) = (differences(&plan, mask).unwrap(), schedules(&plan, mask));
-            assert_eq!(found, table_by_enumeration(&plan, mask), "{plan:?} {mask}");
+            let found = differences(&plan, mask).unwrap();
             assert_eq!(found, table_by_lowering(&plan, mask), "{plan:?} {mask}");
-            assert_eq!(found.is_none(), schedules.is_empty(), "{plan:?} {mask}");
             assert_eq!(found.is_none(), verdict(&plan, mask).unwrap().is_none(), "{plan:?} {mask}");
             *if found.is_some() { &mut some } else { &mut none } += 1;
             if let Some(table) = found {
-                let used = |x: usize| x < plan.points as usize;
-                let zero = |x: usize, y: usize| x == y || !used(x) || !used(y);
-                assert!((0..64).all(|i| !zero(i / 8, i % 8) || table[i / 8][i % 8] == 0), "{plan:?} {mask}");
-                before += forced(&plan, &schedules, &table);
+                assert!(zeros(&plan, &table), "{plan:?} {mask}");
+                before += forced(&plan, &schedules(&plan, mask), &table);
             }
         }
     }
     assert!(some > 1000 && none > 1000 && before > 1000, "{some} {none} {before}");
 }
 
-/// What holds of every table: its diagonal, its range, the relevant constraints, and a way over a third point.
-fn sound(plan: &Plan, mask: u8, table: &Table) -> bool {
-    let (points, horizon) = (plan.points as usize, plan.horizon as i16);
-    let keeps = |c: &Constraint| table[c.from as usize][c.to as usize] <= c.bound;
-    (0..points).all(|x| table[x][x] == 0 && table[x].iter().all(|entry| (-horizon..=horizon).contains(entry)))
-        && plan.used_constraints().iter().all(|c| !c.label_holds(mask) || keeps(c))
-        && (0..points.pow(3)).all(|i| {
-            let (x, y, z) = (i % points, i / points % points, i / points / points);
-            table[x][z] <= table[x][y] + table[y][z]
-        })
+/// By the verdict: some schedule has point Y as far behind point X as the table says, and none has it farther.
+fn exact(plan: &Plan, mask: u8, table: &Table) -> bool {
+    let apart = |x: u8, y: u8, least: i16| {
+        let more = plan.with(Constraint { from: y, to: x, bound: -least, need: 0, truth: 0 });
+        verdict(&more, mask).unwrap().is_some()
+    };
+    let mut pairs = (0..plan.points).flat_map(|x| (0..plan.points).map(move |y| (x, y)));
+    pairs.all(|(x, y)| {
+        let largest = table[x as usize][y as usize];
+        apart(x, y, largest) && !apart(x, y, largest + 1)
+    })
 }
 
 #[test]
-fn larger_tables_are_sound() {
+fn larger_tables_are_exact() {
     let mut random = Random(6);
     let (mut some, mut none) = (0, 0);
     for _ in 0..1000 {
@@ -110,7 +115,7 @@ fn larger_tables_are_sound() {
         let mask = random.mask(plan.all_letters());
         let found = differences(&plan, mask).unwrap();
         assert_eq!(found.is_none(), verdict(&plan, mask).unwrap().is_none(), "{plan:?} {mask}");
-        assert!(found.is_none_or(|table| sound(&plan, mask, &table)), "{plan:?} {mask}");
+        assert!(found.is_none_or(|table| zeros(&plan, &table) && exact(&plan, mask, &table)), "{plan:?} {mask}");
         *if found.is_some() { &mut some } else { &mut none } += 1;
     }
     assert!(some > 300 && none > 100, "{some} {none}");

@@ -499,9 +499,9 @@ pub fn least_schedule(plan: &[u8], values: u8, schedule: &mut [u8]) -> Result<bo
 
 /// Where the letters of `values` are true and the others false: `true`, and the first 128 bytes of `table` are the
 /// differences, or `false` where there is no schedule. Row X, column Y (see [`entry`]) is the largest value that time
-/// of Y minus time of X takes in any schedule; rows and columns of unused points are zero. X is forced strictly before
-/// Y exactly where row Y, column X is at most -1. Refused with 10, 2, 3, 4 or 8. Beside `false` and every refusal, 10
-/// for a short plan too, the 128 bytes are zero; where `table` has fewer, no byte changes.
+/// of Y minus time of X takes in any schedule within the horizon; rows and columns of unused points are zero. X is
+/// forced strictly before Y exactly where row Y, column X is at most -1. Refused with 10, 2, 3, 4 or 8. Beside `false`
+/// and every refusal, 10 for a short plan too, the 128 bytes are zero; where `table` has fewer, no byte changes.
 ///
 /// ```
 /// use tureenlark::*;
@@ -515,7 +515,8 @@ pub fn least_schedule(plan: &[u8], values: u8, schedule: &mut [u8]) -> Result<bo
 /// assert_eq!(entry(&table, fetch, photograph), 2); // and photograph at most 2 slots later
 /// assert_eq!(entry(&table, fetch, 7), 0); // there is no point 7
 /// assert_eq!(differences(&plan, 1, &mut table), Ok(true));
-/// assert_eq!(entry(&table, photograph, fetch), 2); // fetch may come 2 slots later: no order is forced
+/// assert_eq!(entry(&table, photograph, fetch), 2); // fetch may come up to 2 slots later,
+/// assert_eq!(entry(&table, fetch, photograph), 1); // photograph up to 1 slot later: no order is forced
 ///
 /// plan[0] = 1; // the horizon
 /// assert_eq!(differences(&plan, 0, &mut table), Ok(false));

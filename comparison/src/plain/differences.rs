@@ -17,26 +17,31 @@ fn first_limits(plan: &Plan, values: u8) -> Limits {
     limits
 }
 
-/// Each limit lowered to what two limits over point k ask together. No difference doubles more than eight times, so that
-/// the bias is enough.
+/// The limits of a row lowered to what two limits over point k ask together.
+fn row_over(limits: &Limits, k: usize, x: usize) -> [u32; 8] {
+    std::array::from_fn(|y| limits[x][y].min(limits[x][k] + limits[k][y] - BIAS))
+}
+
+/// Every row lowered over point k. A pass at most doubles the largest size; 999 * 2^8 is below the bias.
 fn lowered_over(limits: Limits, k: usize) -> Limits {
-    std::array::from_fn(|x| std::array::from_fn(|y| limits[x][y].min(limits[x][k] + limits[k][y] - BIAS)))
+    std::array::from_fn(|x| row_over(&limits, k, x))
+}
+
+/// A row without the bias; zeros past the points.
+fn shown_row(limits: &[u32; 8], points: usize) -> [i16; 8] {
+    std::array::from_fn(|y| if y < points { limits[y].wrapping_sub(BIAS) as i16 } else { 0 })
+}
+
+/// All rows without the bias; zeros past the points.
+fn shown(limits: &Limits, points: usize) -> Table {
+    std::array::from_fn(|x| if x < points { shown_row(&limits[x], points) } else { [0; 8] })
 }
 
 /// The table of a plan that was judged, unless some point would have to come before itself.
 fn decide(plan: &Plan, values: u8) -> Option<Table> {
     let points = plan.points as usize;
     let limits = (0..points).fold(first_limits(plan, values), lowered_over);
-    if (0..points).any(|x| limits[x][x] < BIAS) {
-        return None;
-    }
-    let mut table = [[0; 8]; 8];
-    for (row, limits) in table[..points].iter_mut().zip(&limits) {
-        for (entry, limit) in row[..points].iter_mut().zip(limits) {
-            *entry = limit.wrapping_sub(BIAS) as i16;
-        }
-    }
-    Some(table)
+    (0..points).all(|x| limits[x][x] >= BIAS).then(|| shown(&limits, points))
 }
 
 /// The differences where the letters of the mask `values` are true and the others false, or none where there is no
