@@ -13,10 +13,10 @@ ghost use Rattle.network.specs.Network.{atMost, slotsIn};
 ghost use Rattle.network.specs.SoFar.{keptSoFar, keepsSoFar};
 ghost use Rattle.plan.specs.Plan.{signed, constraintOf, networkOf};
 
-// 16 bits in two's complement: from the half of their range on they are negative.
-const HALF_RANGE: u32 = 32768;
+// 16 bits in two's complement: how many values they have, and from which on they are negative.
+pub const RANGE: u32 = 65536;
 
-const RANGE: u32 = 65536;
+const HALF_RANGE: u32 = 32768;
 
 // Whether y - x is at most the bound, which is in two's complement.
 fn at_most(x: u8, y: u8, bound: u16) -> bool

@@ -13,6 +13,7 @@ ghost use Rattle.plan.specs.Plan.{signed, constraintOf, networkOf};
 // 2 to the 24: so no limit is negative while differences are added, and 32 bits hold the sum of two.
 pub const BIAS: u32 = 16777216;
 
+// The lesser of two limits.
 pub fn lesser(a: u32, b: u32) -> u32
     ensures { λ r. ⌜ r ≡ min a b ⌝ }
 {

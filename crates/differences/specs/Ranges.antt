@@ -9,6 +9,10 @@ use Rattle.network.specs.Limits.{bias, limitAt}
 abbrev pub Joins : ℕ → List ℕ → Type 0
 Joins first via = (y : ℕ) → y < 8 → (bias ≤ first + getD via y 0) × (first + getD via y 0 < 4294967296)
 
+-- what the least number of 16 bits in two's complement is below zero
+abbrev pub halfRange : ℕ
+halfRange = 32768
+
 -- each limit is from -n to 63
 abbrev pub InRange : ℕ → List (List ℕ) → Type 0
 InRange n t = (x y : ℕ) → x < 8 → y < 8 → (bias ≤ limitAt t x y + n) × (limitAt t x y ≤ bias + 63)

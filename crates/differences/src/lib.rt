@@ -35,12 +35,12 @@ pub struct DifferenceTable {
     pub rows: [Row; 8],
 }
 
-// A difference without the bias, in 16 bits; zero where a point is unused.
+// A limit as a difference in 16 bits: the bias is a multiple of their range. Zero where a point is unused.
 fn shown_entry(limit: u32, used: bool) -> u16
     ensures { λ r. ⌜ r ≡ cond used (limit % 65536) 0 ⌝ }
 {
     if used {
-        return (limit % 65536) as u16;
+        return (limit % constraints::RANGE) as u16;
     }
     0
 }

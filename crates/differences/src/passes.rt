@@ -7,7 +7,7 @@ ghost use lib.ListN.{getD};
 ghost use Rattle.network.specs.Limits.{bias};
 ghost use Rattle.plan.specs.Plan.{listed};
 ghost use Rattle.differences.specs.Tabling.{unconstrained, passed, passes, noNegativeCycle};
-ghost use Rattle.differences.specs.Ranges.{Joins, InRange};
+ghost use Rattle.differences.specs.Ranges.{Joins, halfRange, InRange};
 
 // The limits that the horizon alone sets: no point is after itself, and none is more than the horizon after another.
 pub fn unconstrained(horizon: u8) -> [[u32; 8]; 8]
@@ -41,7 +41,7 @@ fn tighten_row(row: [u32; 8], first: u32, via: [u32; 8]) -> [u32; 8]
 
 // The pass over point k: each limit of Y - X is lowered to the sum of those of k - X and Y - k, where that is less.
 fn tighten(limits: [[u32; 8]; 8], k: u8) -> [[u32; 8]; 8]
-    requires { ⌜ (k < 8) × InRange (32768 * 2 ^ k) limits ⌝ }
+    requires { ⌜ (k < 8) × InRange (halfRange * 2 ^ k) limits ⌝ }
     ensures { λ r. ⌜ r ≡ passed k limits ⌝ }
 {
     let via = limits[k as usize];
@@ -58,7 +58,7 @@ fn tighten(limits: [[u32; 8]; 8], k: u8) -> [[u32; 8]; 8]
 
 // All passes, one for each of n points.
 pub fn close(limits: [[u32; 8]; 8], n: u8) -> [[u32; 8]; 8]
-    requires { ⌜ (n ≤ 8) × InRange 32768 limits ⌝ }
+    requires { ⌜ (n ≤ 8) × InRange halfRange limits ⌝ }
     ensures { λ r. ⌜ r ≡ passes n limits ⌝ }
 {
     let mut tight = limits;
