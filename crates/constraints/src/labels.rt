@@ -1,4 +1,4 @@
-// The label test, by the letters known so far. What a label asks is known to this file alone.
+// The label test, by the letters known so far and under a setting. What a label asks is known to this file alone.
 ghost use mathlib.Core.Path.{_≡_};
 ghost use Rattle.network.specs.Mask.{bit};
 ghost use Rattle.network.specs.Network.{holds};

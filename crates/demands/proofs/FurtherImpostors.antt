@@ -1,6 +1,6 @@
--- Impostors: checkers, readers, writers and a verdict that document 01 won't take, tables that card 2 won't take, and more. None meets demand
--- 2, or what document 01 says of fixed outcomes, or card 2; a comment says which clause each one breaks. Read the planners and the statements; only the checker need
--- believe the proofs.
+-- Impostors: checkers, readers, writers and a verdict that document 01 won't take, tables that card 2 won't take, and more. Each fails
+-- one of these: demand 2, what document 01 says of fixed outcomes, card 2; a comment says which clause. Read the planners and the statements;
+-- only the checker need believe the proofs.
 use mathlib.Core.Path.{_≡_, refl, sym, ap, _∙_, subst}
 use mathlib.Core.Bool.{true, cond}
 use mathlib.Core.List.{List, [], _∷_, _++_}

@@ -148,7 +148,7 @@ pub record Decides (net : Network) (s : Scenario) (v : Differences) : Type 0 whe
   pub found : v .scheduled ≡ true → Tells net s (v .rows)
   pub missing : v .scheduled ≡ false → Schedulable net s → ⊥
 
--- a bound of 16 bits is in-16-bits
+-- a bound of 16 bits is at least -32,768
 bound-in-16-bits : (b : ℕ) → bias ≤ biased (signed b) + 32768
 unfolding biased signed
 bound-in-16-bits b =

@@ -9,7 +9,7 @@ use Rattle.network.specs.Limits.{bias, limitAt}
 abbrev pub Joins : ℕ → List ℕ → Type 0
 Joins first via = (y : ℕ) → y < 8 → (bias ≤ first + getD via y 0) × (first + getD via y 0 < 4294967296)
 
--- what the least number of 16 bits in two's complement is below zero
+-- how far the least number of 16 bits in two's complement is below zero
 abbrev pub halfRange : ℕ
 halfRange = 32768
 

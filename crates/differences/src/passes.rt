@@ -24,8 +24,8 @@ pub fn unconstrained(horizon: u8) -> [[u32; 8]; 8]
     limits
 }
 
-// The row of X behind the pass over a point: each limit is lowered to `first`, the limit of that point minus X, and its own in `via`, the row
-// of that point, where their sum is less.
+// The row of X behind the pass over a point: each limit is lowered to the sum of `first`, the limit of that point minus X, and its own entry in
+// `via`, the row of that point, where that is less.
 fn tighten_row(row: [u32; 8], first: u32, via: [u32; 8]) -> [u32; 8]
     requires { ⌜ Joins first via ⌝ }
     ensures { λ r. ⌜ r ≡ listed 8 (λ y. min (getD row y 0) (first + getD via y 0 - bias)) ⌝ }
@@ -71,7 +71,8 @@ pub fn close(limits: [[u32; 8]; 8], n: u8) -> [[u32; 8]; 8]
     tight
 }
 
-// Whether no limit of a point and itself is negative, of n points: else there is a cycle of constraints that no schedule keeps.
+// Whether no limit of a point and itself is negative, of n points: else limits along a cycle, of constraints or of the horizon, add up to less
+// than 0, and there is no schedule.
 pub fn no_negative_cycle(limits: [[u32; 8]; 8], n: u8) -> bool
     requires { ⌜ n ≤ 8 ⌝ }
     ensures { λ r. ⌜ r ≡ noNegativeCycle n limits ⌝ }

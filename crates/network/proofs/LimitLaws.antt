@@ -32,7 +32,7 @@ In16Bits c = bias ≤ biased (c .bound) + 32768
 
 -- ---- one limit
 
--- a limit is exact
+-- a bound is kept exactly where its limit is not exceeded
 at-most-limit : (x y : ℕ) (d : ℤ) → atMost x y d ≡ true → y + bias ≤ x + biased d
 unfolding atMost biased
 at-most-limit x y (pos d) t = let h = leb-is y (x + d) t in omega arith

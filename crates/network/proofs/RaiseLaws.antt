@@ -1,5 +1,5 @@
--- Laws of the raise: it only raises, to the cap at most and past no schedule, and where it rests the slots keep. Like NetworkLaws and
--- SoFarLaws it opens what a constraint asks. Only the checker need believe it.
+-- Laws of the raise: it only raises, to the cap at most and past no schedule, and where it rests the slots keep. Like NetworkLaws,
+-- SoFarLaws and LimitLaws it opens what a constraint asks. Only the checker need believe it.
 use mathlib.Core.Path.{_≡_, refl, _∙_}
 use mathlib.Core.Logic.{_↔_, by-cases}
 use mathlib.Core.Bool.{true}

@@ -1,5 +1,5 @@
 -- Laws of what is kept so far: a state in which a constraint is not kept so far is lost, and where no point is left what is kept so far is
--- kept. Like NetworkLaws and RaiseLaws it opens what a constraint asks. Only the checker need believe it.
+-- kept. Like NetworkLaws, RaiseLaws and LimitLaws it opens what a constraint asks. Only the checker need believe it.
 use mathlib.Core.Path.{_≡_, refl, sym, _∙_}
 use mathlib.Core.Logic.{_↔_}
 use mathlib.Core.Bool.{Bool, true, false, _&&_}

@@ -1,5 +1,5 @@
 -- Definitions: what is kept so far at a state of the game, by the points performed and the letters known there. It knows what a constraint is,
--- as `keeps` and the raise do. Not to be believed: only theorems and inner contracts use it.
+-- as `keeps`, the raise and Limits.antt do. Not to be believed: only theorems and inner contracts use it.
 use mathlib.Core.Bool.{Bool, true, not, _&&_, _||_}
 use mathlib.Core.List.{List, [], _∷_}
 use Prim.Native.Nat.{ℕ}

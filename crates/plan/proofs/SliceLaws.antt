@@ -1,5 +1,5 @@
--- Laws of slices and arrays: the part of a slice that starts somewhere, an array of one value, an array filled from the front. Only the
--- checker need believe this file.
+-- Laws of slices and arrays: the part of a slice that starts somewhere, an array of one value, an array filled from the front; `listed`: how
+-- long it is, and each entry. Only the checker need believe this file.
 use mathlib.Core.Path.{_≡_, refl, sym, ap, _∙_}
 use mathlib.Core.Logic.{by-cases}
 use mathlib.Core.List.{List, [], _∷_, _++_, append-assoc, append-nil}
@@ -51,7 +51,7 @@ get-listed d zero f i h = absurd (omega arith)
 get-listed d (suc n) f zero h = refl
 get-listed d (suc n) f (suc i) h = get-listed d n (λ i. f (suc i)) i (omega arith)
 
--- such an array, where the entries are those of a function
+-- an array filled from its front with the entries of a function
 module _ {E : Type 0} (d : E) where
   listed-next : (n : ℕ) (f : ℕ → E) → listed n f ++ f n ∷ [] ≡ listed (suc n) f
   unfolding listed

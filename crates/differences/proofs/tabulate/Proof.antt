@@ -1,4 +1,4 @@
--- `tabulate`: the limits closed, and whether they are noNegativeCycle. Only the checker need believe this file.
+-- `tabulate`: the limits closed, and whether they have no negative cycle. Only the checker need believe this file.
 use mathlib.Core.Path.{_≡_, sym, ap, _∙_, subst}
 use mathlib.Core.Bool.{true}
 use mathlib.Core.List.{List}
