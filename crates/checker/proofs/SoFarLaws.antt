@@ -38,6 +38,6 @@ kept-so-far p wf at ok bs n b e =
     = let q : checked.Sound (nodes net (f .tree)) (allKept net (f .tree) s) ≡ checked.Sound n b = sym again ∙ e in cc in
     by-test b
     (λ y. let won = kept-exactly net (f .tree) s (f .sound) .0 (same ∙ y) in
-    let kept = so-far-is p wf at ∙ won-keeps net (is-network p wf) s (record { tree = f .tree; sound = won }) in
+    let kept = so-far-is p wf at ok ∙ won-keeps net (is-network p wf) s (record { tree = f .tree; sound = won }) in
     rw (y, kept))
     (λ z. rw z (and-false (keepsSoFarIn p at)))

@@ -21,30 +21,30 @@ two-points = plan 2 2 (letter 0 0 ∷ (letter 1 1 ∷ [])) []
 abbrev pub node : ℕ → ℕ → ℕ → Node
 node t ps ch = record { slot = t; points = ps; choices = ch }
 
--- earliest, left, values, the slots of the first two points
-abbrev pub position : ℕ → ℕ → ℕ → ℕ → ℕ → Position
-position e l vs s0 s1 = record { earliest = e; left = l; values = vs; slots = s0 ∷ (s1 ∷ replicate 6 0) }
+-- earliest, left, performed, values, the slots of the first two points
+abbrev pub position : ℕ → ℕ → ℕ → ℕ → ℕ → ℕ → Position
+position e l d vs s0 s1 = record { earliest = e; left = l; performed = d; values = vs; slots = s0 ∷ (s1 ∷ replicate 6 0) }
 
 abbrev legal : Position → Node → Bool
 legal at v = isLegal two-points (stateOf two-points at) (moveOf v)
 
 -- point 0 in slot 1, and condition 0 was heard true
 abbrev pub midway : Position
-midway = position 2 2 1 1 0
+midway = position 2 2 1 1 1 0
 
 -- ---- a path: point 0 in slot 1, condition 0 true; point 1 in slot 2, decision 1 set true; or both points at once
 
 pub path :
-    (startPosition two-points ≡ position 0 3 0 0 0) × (positionAfter (startPosition two-points) (node 1 1 0) 1 ≡ midway)
-    × (positionAfter midway (node 2 2 2) 0 ≡ position 3 0 3 1 2)
-    × (positionAfter (startPosition two-points) (node 2 3 2) 0 ≡ position 3 0 2 2 2)
+    (startPosition two-points ≡ position 0 3 0 0 0 0) × (positionAfter (startPosition two-points) (node 1 1 0) 1 ≡ midway)
+    × (positionAfter midway (node 2 2 2) 0 ≡ position 3 0 3 3 1 2)
+    × (positionAfter (startPosition two-points) (node 2 3 2) 0 ≡ position 3 0 3 2 2 2)
 unfolding bit mask listed
 path = (refl, refl, refl, refl)
 
 -- the conditions heard, the decisions made
 pub letters :
     (stateOf two-points midway .heard ≡ 1) × (stateOf two-points midway .decided ≡ 0)
-    × (stateOf two-points (position 3 0 3 1 2) .heard ≡ 1) × (stateOf two-points (position 3 0 3 1 2) .decided ≡ 2)
+    × (stateOf two-points (position 3 0 3 3 1 2) .heard ≡ 1) × (stateOf two-points (position 3 0 3 3 1 2) .decided ≡ 2)
 unfolding bit mask
 letters = (refl, refl, refl, refl)
 

@@ -2,6 +2,7 @@
 use mathlib.Core.Path.{_≡_, refl, sym, _∙_, fun-ext}
 use mathlib.Core.Logic.{by-cases}
 use mathlib.Core.Bool.{Bool, true, false, not, cond, _&&_, _||_, and-false, or-false}
+use mathlib.Core.List.{[], _∷_, _++_}
 use Prim.Native.Nat.{ℕ, _<_}
 use native.Mathlib.Omega.{arith}
 use native.Mathlib.Decide.{decLt}
@@ -24,7 +25,8 @@ use Rattle.plan.proofs.SliceLaws.{all-same, length-listed, get-listed}
 use Rattle.tree.specs.declared.Node.{Node}
 use Rattle.tree.specs.Parts.{moveOf}
 use Rattle.game.specs.declared.Position.{Position}
-use Rattle.game.specs.Position.{stateOf, Proper, startPosition, positionAfter}
+use Rattle.game.specs.Position.{stateOf, Proper, startPosition, positionAfter, LeadTo}
+use Rattle.game.proofs.PathLaws.{lead-on}
 
 -- no letter is set true where none is
 none-set : (n : ℕ) (f : ℕ → Bool) → mask n (λ l. f l && bit 0 l) ≡ 0
@@ -61,10 +63,13 @@ module _ (p : Plan) (wf : WellFormed p) where
       λ i. record { open-from = 0; left = left i; slots = slots i; heard = heard i; decided = decided i }
 
   pub start-proper : Proper p (startPosition p)
+  unfolding LeadTo
   start-proper =
       record {
         points-left = λ x y. ltb-is x (p .points) (in-mask 8 _ x y .1);
         disclosed = λ l y. clash y (bit-zero l);
+        above = [];
+        reached = refl;
       }
 
   -- ---- a position as a state
@@ -132,6 +137,8 @@ module _ (p : Plan) (wf : WellFormed p) where
                 (λ z. by-test (bit (v .choices) l)
                 (λ b. performed x (and-right (decision net l) (bit (v .points) x) (lg .disclosed l b)))
                 (λ w. performed x (heard-point net (moveOf v) l (out l (rw (z, w) at (in-mask 8 _ l y .1))))));
+            above = ok .above ++ (record { instruction = moveOf v; report = o } ∷ []);
+            reached = lead-on p (ok .above) (startPosition p) at (record { instruction = moveOf v; report = o }) (ok .reached) lg out;
           }
 
       -- the value of a letter after the move

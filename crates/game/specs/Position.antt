@@ -1,15 +1,16 @@
--- Definitions: a position as the code holds it, the state of the game that it stands for, legal moves as the code tests them. Inner
--- contracts speak of `stateOf` and `Proper`; `start-is` and `after-is` of proofs/PositionLaws.antt and `so-far-is` of proofs/SoFarLaws.antt
--- tie the rest to the game too. Computed: pinned by `legal-exactly` of game/proofs/LegalLaws.antt.
+-- Definitions: a position as the code holds it, the state of the game that it stands for, the path above it, legal moves as the code tests
+-- them. Inner contracts speak of `stateOf` and `Proper`; `start-is` and `after-is` of proofs/PositionLaws.antt and `so-far-is` of
+-- proofs/SoFarLaws.antt tie the rest to the game too. Computed: pinned by `legal-exactly` of game/proofs/LegalLaws.antt.
 use mathlib.Core.Path.{_≡_}
 use mathlib.Core.Bool.{Bool, true, false, not, cond, _&&_, _||_}
-use mathlib.Core.List.{List}
+use mathlib.Core.List.{List, [], _∷_}
 use Prim.Native.Nat.{ℕ, _+_, _<_}
 use lib.Dec.{leb, ltb, eqb}
 use lib.ListN.{getD, replicate}
 use Rattle.network.specs.Mask.{bit, mask}
 use Rattle.network.specs.Network.{condition, decision, slotsIn}
-use Rattle.network.specs.Game.{State, Move}
+use Rattle.network.specs.Game.{State, Move, Legal, Outcome}
+use Rattle.network.specs.Crew.{Step, Some}
 use Rattle.network.specs.SoFar.{keepsSoFar}
 use Rattle.masks.specs.Masks.{inside}
 use Rattle.plan.specs.declared.Plan.{Plan}
@@ -17,6 +18,7 @@ use Rattle.plan.specs.Plan.{listed, networkOf}
 use Rattle.plan.specs.Letters.{knownBy}
 use Rattle.plan.specs.Settled.{settledBy}
 use Rattle.tree.specs.declared.Node.{Node}
+use Rattle.tree.specs.Parts.{nodeOf}
 use Rattle.game.specs.declared.Position.{Position}
 
 -- the state of the game that a position stands for: of the letters set true, the conditions were heard and the decisions made
@@ -30,15 +32,10 @@ stateOf p at =
       decided = mask (p .letters) (λ l. decision (networkOf p) l && bit (at .values) l);
     }
 
--- A proper position: only points of the plan are left, and only letters that points already performed disclose are set true. The first
--- one is proper, and every legal move leads from a proper one to proper ones.
-pub record Proper (p : Plan) (at : Position) : Type 0 where
-  pub points-left : (x : ℕ) → bit (at .left) x ≡ true → x < p .points
-  pub disclosed : (l : ℕ) → bit (at .values) l ≡ true → bit (at .left) (networkOf p .disclosing l) ≡ false
-
 -- before the first move
 abbrev pub startPosition : Plan → Position
-startPosition p = record { earliest = 0; left = mask 8 (λ x. ltb x (p .points)); values = 0; slots = replicate 8 0 }
+startPosition p =
+    record { earliest = 0; left = mask 8 (λ x. ltb x (p .points)); performed = 0; values = 0; slots = replicate 8 0 }
 
 -- a legal move: `Legal` of the game, tested
 unfoldable pub isLegal : Plan → State → Move → Bool
@@ -55,15 +52,33 @@ positionAfter at v o =
     record {
       earliest = v .slot + 1;
       left = mask 8 (λ x. bit (at .left) x && not (bit (v .points) x));
+      performed = mask 8 (λ x. bit (at .performed) x || bit (v .points) x);
       values = mask 8 (λ l. bit (at .values) l || bit (v .choices) l || bit o l);
       slots = slotsAfter (at .slots) (v .points) (v .slot);
     }
 
--- the points performed: of the first n, those that are not left
-abbrev pub performedOf : ℕ → ℕ → ℕ
-performedOf n left = mask 8 (λ x. ltb x n && not (bit left x))
+-- From one position the steps of a path lead to another: each is a legal move with one of its outcomes.
+unfoldable pub LeadTo : Plan → Position → List Step → Position → Type 0
+LeadTo p from [] at = from ≡ at
+LeadTo p from (st ∷ path) at =
+    Legal (networkOf p) (stateOf p from) (st .instruction) × Outcome (networkOf p) (st .instruction) (st .report)
+    × LeadTo p (positionAfter from (nodeOf (st .instruction)) (st .report)) path at
 
--- every constraint is kept so far: `keepsSoFarAt` of the state (`so-far-is` of proofs/SoFarLaws.antt)
+-- some move of the path performs x
+abbrev pub PerformedOn : List Step → ℕ → Type 0
+PerformedOn path x = Some (λ st. bit (st .instruction .points) x ≡ true) path
+
+-- A proper position: one that a path leads to from the first. Only points of the plan are left, and only letters that points already
+-- performed disclose are set true. The first one is proper, and every legal move leads from a proper one to proper ones. The points that it
+-- holds as performed are those performed on the path above it: proofs/PerformedTheorems.antt.
+pub record Proper (p : Plan) (at : Position) : Type 0 where
+  pub points-left : (x : ℕ) → bit (at .left) x ≡ true → x < p .points
+  pub disclosed : (l : ℕ) → bit (at .values) l ≡ true → bit (at .left) (networkOf p .disclosing l) ≡ false
+  pub above : List Step
+  pub reached : LeadTo p (startPosition p) above at
+
+-- every constraint is kept so far, by the points performed and the letters that they disclose: `keepsSoFarAt` of the state (`so-far-is` of
+-- proofs/SoFarLaws.antt)
 abbrev pub keepsSoFarIn : Plan → Position → Bool
 keepsSoFarIn p at =
-    let performed = performedOf (p .points) (at .left) in keepsSoFar (networkOf p) (knownBy p performed) performed (slotsIn (at .slots)) (bit (at .values))
+    keepsSoFar (networkOf p) (knownBy p (at .performed)) (at .performed) (slotsIn (at .slots)) (bit (at .values))

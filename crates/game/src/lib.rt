@@ -6,13 +6,14 @@ ghost use mathlib.Core.Path.{_≡_};
 ghost use Rattle.network.specs.Mask.{mask};
 ghost use lib.Dec.{ltb};
 ghost use Rattle.tree.specs.Parts.{moveOf};
-ghost use Rattle.game.specs.Position.{stateOf, slotsAfter, isLegal, startPosition, positionAfter, performedOf, keepsSoFarIn};
+ghost use Rattle.game.specs.Position.{stateOf, slotsAfter, isLegal, startPosition, positionAfter, keepsSoFarIn};
 
-// Where the game stands on a path: the first slot still open, the points not yet performed, the letters set true, and the slot of each
-// point that is performed.
+// Where the game stands on a path: the first slot still open, the points not yet performed, the points performed on the path above, the
+// letters set true, and the slot of each point that is performed.
 pub struct Position {
     pub earliest: u16,
     pub left: u8,
+    pub performed: u8,
     pub values: u8,
     pub slots: [u8; 8],
 }
@@ -34,6 +35,7 @@ pub fn start(plan: Plan) -> Position
     Position {
         earliest: 0,
         left: first_points(plan.points),
+        performed: 0,
         values: 0,
         slots: [0; 8],
     }
@@ -73,16 +75,10 @@ pub fn after(at: Position, v: Node, outcome: u8) -> Position
     Position {
         earliest: v.slot as u16 + 1,
         left: at.left & !v.points,
+        performed: at.performed | v.points,
         values: at.values | v.choices | outcome,
         slots: slots_after(slots, v.points, v.slot),
     }
-}
-
-// The points performed: of the first n, those that are not left.
-pub fn performed_points(n: u8, left: u8) -> u8
-    ensures { λ r. ⌜ r ≡ performedOf n left ⌝ }
-{
-    first_points(n) & !left
 }
 
 // Whether every constraint is kept so far at this position. The letters known there are those that the points performed disclose.
@@ -90,7 +86,6 @@ pub fn keeps_so_far(plan: Plan, at: Position) -> bool
     ensures { λ r. ⌜ r ≡ keepsSoFarIn plan at ⌝ }
 {
     let slots = at.slots;
-    let performed = performed_points(plan.points, at.left);
-    let known = letters::known(plan, performed);
-    constraints::all_kept_so_far(plan, slots, at.values, known, performed)
+    let known = letters::known(plan, at.performed);
+    constraints::all_kept_so_far(plan, slots, at.values, known, at.performed)
 }

@@ -57,8 +57,8 @@ from-start = refl
 
 -- the last slot with one point left; past the horizon; nothing left
 pub near-the-end :
-    (moves two-points midway ≡ node 2 2 0 ∷ node 2 2 2 ∷ []) × (moves two-points (position 3 2 1 2 0) ≡ [])
-    × (moves two-points (position 1 0 0 0 0) ≡ [])
+    (moves two-points midway ≡ node 2 2 0 ∷ node 2 2 2 ∷ []) × (moves two-points (position 3 2 1 1 2 0) ≡ [])
+    × (moves two-points (position 1 0 3 0 0 0) ≡ [])
 unfolding bit mask firstBelow submask rank fromSlot nextStep walk
 near-the-end = (refl, refl, refl)
 
@@ -84,14 +84,14 @@ one-waits = (refl, refl)
 pub both-wait :
     (timely two-points (startPosition two-points) (soonest 2 2)
     ≡ node 2 1 0 ∷ node 2 2 0 ∷ node 2 2 2 ∷ node 2 3 0 ∷ node 2 3 2 ∷ [])
-    × (timely two-points (position 1 2 0 0 0) (soonest 0 2) ≡ node 2 2 0 ∷ node 2 2 2 ∷ [])
-    × (timely two-points (position 1 1 0 0 0) (soonest 2 0) ≡ node 2 1 0 ∷ [])
+    × (timely two-points (position 1 2 1 0 0 0) (soonest 0 2) ≡ node 2 2 0 ∷ node 2 2 2 ∷ [])
+    × (timely two-points (position 1 1 2 0 0 0) (soonest 2 0) ≡ node 2 1 0 ∷ [])
 unfolding bit mask firstBelow submask rank fromSlot nextStep walk
 both-wait = (refl, refl, refl)
 
 -- one point waits past the horizon, or both do
 pub too-late :
-    (timely two-points (position 2 3 0 0 0) (soonest 2 3) ≡ node 2 1 0 ∷ [])
+    (timely two-points (position 2 3 0 0 0 0) (soonest 2 3) ≡ node 2 1 0 ∷ [])
     × (timely two-points (startPosition two-points) (soonest 3 3) ≡ [])
 unfolding bit mask firstBelow submask rank fromSlot nextStep walk
 too-late = (refl, refl)
@@ -103,7 +103,7 @@ widest = plan 63 8 (letter 0 1 ∷ letter 1 1 ∷ letter 2 1 ∷ letter 3 1 ∷ 
 
 -- points 1 and 7 are left, with decisions 1 and 5
 abbrev gaps : ℕ → Position
-gaps earliest = position earliest 130 0 0 0
+gaps earliest = position earliest 130 125 0 0 0
 
 -- the last slot: the sets 2, 128 and 130 of points, each with its choices; and past it
 pub last-slot :
@@ -128,7 +128,7 @@ abbrev late-seven : List ℕ
 late-seven = 0 ∷ (0 ∷ (0 ∷ (0 ∷ (0 ∷ (0 ∷ (0 ∷ (63 ∷ [])))))))
 
 pub long-wait :
-    (firstStep widest (position 1 128 0 0 0) late-seven ≡ try 63 128 0) × (nextStep widest (gaps 0) late-seven (node 62 2 2) ≡ try 63 2 0)
+    (firstStep widest (position 1 128 127 0 0 0) late-seven ≡ try 63 128 0) × (nextStep widest (gaps 0) late-seven (node 62 2 2) ≡ try 63 2 0)
     × (nextStep widest (gaps 0) late-seven (node 63 2 2) ≡ try 63 128 0)
 unfolding bit mask firstBelow submask rank fromSlot nextStep
 long-wait = (refl, refl, refl)

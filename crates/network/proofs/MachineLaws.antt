@@ -77,6 +77,9 @@ and-masks n f g =
     (λ ge. rw (bit-mask-above n f i (omega arith), bit-mask-above n (λ i. f i && g i) i (omega arith))))
 
 -- the members of one of three sets
+pub or-two : (n a b : ℕ) → a < 2 ^ n → b < 2 ^ n → bitOr a b ≡ mask n (λ i. bit a i || bit b i)
+or-two n a b ha hb = mask-is n (bitOr a b) _ (or-lt n a b ha hb) (λ i lt. bit-or a b i)
+
 pub or-masks :
     (n a b c : ℕ) → a < 2 ^ n → b < 2 ^ n → c < 2 ^ n → bitOr (bitOr a b) c ≡ mask n (λ i. bit a i || bit b i || bit c i)
 or-masks n a b c ha hb hc =

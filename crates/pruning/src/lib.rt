@@ -65,9 +65,8 @@ fn kept_so_far_by(rows: &[u16; 320], o: Outline, at: Position) -> bool
 {
     let slots = at.slots;
     let entries = o.letter;
-    let performed = game::performed_points(o.points, at.left);
-    let known = letters::known_of(entries, o.letters, performed);
-    rows::rows_kept_so_far(rows, o.constraints, slots, at.values, known, performed)
+    let known = letters::known_of(entries, o.letters, at.performed);
+    rows::rows_kept_so_far(rows, o.constraints, slots, at.values, known, at.performed)
 }
 
 // The test of a state, by outline and rows: lost where some constraint is not kept so far, since no later move changes that; else as its

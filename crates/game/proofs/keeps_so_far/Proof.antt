@@ -4,9 +4,6 @@ use borrow.Author.Needs.{needs}
 use Rattle.game.proofs.keeps_so_far.Statement.{statement}
 use Rattle.game.proofs.keeps_so_far.Tie as tie
 
-performed-points-requires : tie.Need-performed-points-requires
-performed-points-requires c κs = search needs
-
 known-requires : tie.Need-known-requires
 known-requires c κs = search needs
 
@@ -14,7 +11,7 @@ all-kept-so-far-requires : tie.Need-all-kept-so-far-requires
 all-kept-so-far-requires c κs = search needs
 
 returns : tie.Need-returns
-returns c = c .all-kept-so-far .ensures ∙ rw (c .before .known .ensures, c .before .before .performed-points .ensures)
+returns c = c .all-kept-so-far .ensures ∙ rw (c .before .known .ensures)
 
 pub keeps-so-far-spec : {M : Type 1} → statement M
-keeps-so-far-spec = tie.close (tie.spec performed-points-requires known-requires all-kept-so-far-requires returns)
+keeps-so-far-spec = tie.close (tie.spec known-requires all-kept-so-far-requires returns)

@@ -18,7 +18,7 @@ returns c p same say = (
   λ z. refl,
   λ wf ok e. let at = c .before .before .args .at in
       broken-lost (networkOf p) (is-network p wf) (stateOf p at)
-      (sym (so-far-is p wf at) ∙ denied (c .before .kept-so-far-by .ensures p same say) (c .if1 .taken)),
+      (sym (so-far-is p wf at ok) ∙ denied (c .before .kept-so-far-by .ensures p same say) (c .if1 .taken)),
 )
 
 lost-by-requires : tie.Need-lost-by-requires
