@@ -1,5 +1,5 @@
 -- Laws of positions: they stand for the states of the game, and the code's moves are its moves. Only the checker need believe this file.
-use mathlib.Core.Path.{_≡_, refl, sym, _∙_, fun-ext}
+use mathlib.Core.Path.{_≡_, refl, sym, ap, _∙_, subst, fun-ext}
 use mathlib.Core.Logic.{by-cases}
 use mathlib.Core.Bool.{Bool, true, false, not, cond, _&&_, _||_, and-false, or-false}
 use mathlib.Core.List.{[], _∷_, _++_}
@@ -7,10 +7,13 @@ use Prim.Native.Nat.{ℕ, _<_}
 use native.Mathlib.Omega.{arith}
 use native.Mathlib.Decide.{decLt}
 use native.Mathlib.Numerals.{add-one}
-use lib.ListN.{length, List·getD-eq-default}
+use lib.ListN.{length, length-replicate, List·getD-eq-default}
 use Rattle.network.specs.Mask.{bit, mask, count}
 use Rattle.network.specs.Network.{Network, condition, decision, combined, slotsIn}
-use Rattle.network.specs.Game.{start, hears, settles, Legal, Outcome, after}
+use Rattle.network.specs.Game.{State, start, hears, settles, Legal, Outcome, after}
+use Rattle.network.specs.Crew.{Step}
+use Rattle.network.specs.Walks.{stateAfter}
+use Rattle.network.specs.RunningSet.{LegalPath}
 use Rattle.network.specs.Search.{over}
 use Rattle.network.proofs.Booleans.{by-test, clash, and-left, and-right, ltb-is}
 use Rattle.network.proofs.BelowLaws.{count-drop}
@@ -18,6 +21,7 @@ use Rattle.network.proofs.MaskLaws.{bit-zero, bit-mask, in-mask, mask-cong, mas
 use Rattle.network.proofs.NetworkLaws.{decision-of, condition-of, one-kind}
 use Rattle.network.proofs.GameLaws.{Inside, heard-condition, heard-point, settled-decision, outcome-outside}
 use Rattle.network.proofs.SearchLaws.{over-is}
+use Rattle.network.proofs.RunningSetLaws.{legal-on, state-on}
 use Rattle.plan.specs.declared.Plan.{Plan}
 use Rattle.plan.specs.Plan.{networkOf}
 use Rattle.plan.specs.WellFormed.{WellFormed}
@@ -25,8 +29,8 @@ use Rattle.plan.proofs.SliceLaws.{all-same, length-listed, get-listed}
 use Rattle.tree.specs.declared.Node.{Node}
 use Rattle.tree.specs.Parts.{moveOf}
 use Rattle.game.specs.declared.Position.{Position}
-use Rattle.game.specs.Position.{stateOf, Proper, startPosition, positionAfter, LeadTo}
-use Rattle.game.proofs.PathLaws.{lead-on}
+use Rattle.game.specs.Position.{stateOf, Proper, startPosition, positionAfter, positionAlong}
+use Rattle.game.proofs.PathLaws.{along-on, along-long}
 
 -- no letter is set true where none is
 none-set : (n : ℕ) (f : ℕ → Bool) → mask n (λ l. f l && bit 0 l) ≡ 0
@@ -63,13 +67,15 @@ module _ (p : Plan) (wf : WellFormed p) where
       λ i. record { open-from = 0; left = left i; slots = slots i; heard = heard i; decided = decided i }
 
   pub start-proper : Proper p (startPosition p)
-  unfolding LeadTo
+  unfolding LegalPath positionAlong stateAfter
   start-proper =
       record {
         points-left = λ x y. ltb-is x (p .points) (in-mask 8 _ x y .1);
         disclosed = λ l y. clash y (bit-zero l);
         above = [];
+        legal = tt;
         reached = refl;
+        stands = start-is;
       }
 
   -- ---- a position as a state
@@ -127,20 +133,6 @@ module _ (p : Plan) (wf : WellFormed p) where
         (lg .not-yet (x .0) (x .2)) (performed (x .0) (x .2))
 
     module _ (out : Outcome net (moveOf v) o) where
-      pub after-proper : Proper p (positionAfter at v o)
-      after-proper =
-          record {
-            points-left = λ x y. ok .points-left x (and-left (bit (at .left) x) (not (bit (v .points) x)) (in-mask 8 _ x y .1));
-            disclosed = λ l y. let x = net .disclosing l in
-                by-test (bit (at .values) l)
-                (λ b. gone at v o x (rw (ok .disclosed l b)))
-                (λ z. by-test (bit (v .choices) l)
-                (λ b. performed x (and-right (decision net l) (bit (v .points) x) (lg .disclosed l b)))
-                (λ w. performed x (heard-point net (moveOf v) l (out l (rw (z, w) at (in-mask 8 _ l y .1))))));
-            above = ok .above ++ (record { instruction = moveOf v; report = o } ∷ []);
-            reached = lead-on p (ok .above) (startPosition p) at (record { instruction = moveOf v; report = o }) (ok .reached) lg out;
-          }
-
       -- the value of a letter after the move
       abbrev value : ℕ → Bool
       value l = bit (at .values) l || bit (v .choices) l || bit o l
@@ -204,3 +196,25 @@ module _ (p : Plan) (wf : WellFormed p) where
           let heard = mask-after (condition net) (hears net (moveOf v)) (bit o) heard-after in
           let decided = mask-after (decision net) (settles net (moveOf v)) (bit (v .choices)) decided-after in
           λ i. record { open-from = next i; left = left i; slots = slots i; heard = heard i; decided = decided i }
+
+      pub after-proper : Proper p (positionAfter at v o)
+      after-proper =
+          record {
+            points-left = λ x y. ok .points-left x (and-left (bit (at .left) x) (not (bit (v .points) x)) (in-mask 8 _ x y .1));
+            disclosed = λ l y. let x = net .disclosing l in
+                by-test (bit (at .values) l)
+                (λ b. gone at v o x (rw (ok .disclosed l b)))
+                (λ z. by-test (bit (v .choices) l)
+                (λ b. performed x (and-right (decision net l) (bit (v .points) x) (lg .disclosed l b)))
+                (λ w. performed x (heard-point net (moveOf v) l (out l (rw (z, w) at (in-mask 8 _ l y .1))))));
+            above = ok .above ++ (step ∷ []);
+            legal = legal-on net (ok .above) (start net) step (ok .legal) (subst (λ (s : State). Legal net s (moveOf v)) (ok .stands) lg) out;
+            reached = ap (λ (u : Position). positionAfter u v o) (ok .reached) ∙ sym (along-on (ok .above) (startPosition p) step);
+            stands = after-is long ∙ ap (λ (s : State). after net s (moveOf v) o) (ok .stands) ∙ sym (state-on net (ok .above) (start net) step);
+          }
+        where
+          step : Step
+          step = record { instruction = moveOf v; report = o }
+
+          long : length (at .slots) ≡ 8
+          long = ap (λ (u : Position). length (u .slots)) (ok .reached) ∙ along-long (ok .above) (startPosition p) (length-replicate {A = ℕ} 8 0)

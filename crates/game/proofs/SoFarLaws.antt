@@ -27,7 +27,7 @@ module _ (p : Plan) (wf : WellFormed p) (at : Position) (ok : Proper p at) where
   net = networkOf p
 
   bit-is : (x : ℕ) → bit (at .performed) x ≡ (ltb x (p .points) && not (bit (at .left) x))
-  bit-is = performed-not-left p wf (ok .above) at (ok .reached)
+  bit-is = performed-not-left p wf at ok
 
   -- the points performed, the letters that they disclose
   performed-is : at .performed ≡ performedAt net (stateOf p at)

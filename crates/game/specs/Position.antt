@@ -9,8 +9,10 @@ use lib.Dec.{leb, ltb, eqb}
 use lib.ListN.{getD, replicate}
 use Rattle.network.specs.Mask.{bit, mask}
 use Rattle.network.specs.Network.{condition, decision, slotsIn}
-use Rattle.network.specs.Game.{State, Move, Legal, Outcome}
-use Rattle.network.specs.Crew.{Step, Some}
+use Rattle.network.specs.Game.{State, start, Move}
+use Rattle.network.specs.Crew.{Step}
+use Rattle.network.specs.Walks.{stateAfter}
+use Rattle.network.specs.RunningSet.{LegalPath}
 use Rattle.network.specs.SoFar.{keepsSoFar}
 use Rattle.masks.specs.Masks.{inside}
 use Rattle.plan.specs.declared.Plan.{Plan}
@@ -57,25 +59,24 @@ positionAfter at v o =
       slots = slotsAfter (at .slots) (v .points) (v .slot);
     }
 
--- From one position the steps of a path lead to another: each is a legal move with one of its outcomes.
-unfoldable pub LeadTo : Plan → Position → List Step → Position → Type 0
-LeadTo p from [] at = from ≡ at
-LeadTo p from (st ∷ path) at =
-    Legal (networkOf p) (stateOf p from) (st .instruction) × Outcome (networkOf p) (st .instruction) (st .report)
-    × LeadTo p (positionAfter from (nodeOf (st .instruction)) (st .report)) path at
+-- the position that the steps of a path lead to, and the points performed that it carries: the running value of card 3
+unfoldable pub positionAlong : Position → List Step → Position
+positionAlong at [] = at
+positionAlong at (st ∷ path) = positionAlong (positionAfter at (nodeOf (st .instruction)) (st .report)) path
 
--- some move of the path performs x
-abbrev pub PerformedOn : List Step → ℕ → Type 0
-PerformedOn path x = Some (λ st. bit (st .instruction .points) x ≡ true) path
+abbrev pub carried : Plan → List Step → ℕ
+carried p path = positionAlong (startPosition p) path .performed
 
--- A proper position: one that a path leads to from the first. Only points of the plan are left, and only letters that points already
--- performed disclose are set true. The first one is proper, and every legal move leads from a proper one to proper ones. The points that it
--- holds as performed are those performed on the path above it: proofs/PerformedTheorems.antt.
+-- A proper position: only points of the plan are left, and only letters that points already performed disclose are set true. It is reached
+-- from the first one by a legal path, the path above it, and stands for the state of the game there. The first one is proper, and every legal
+-- move leads from a proper one to proper ones.
 pub record Proper (p : Plan) (at : Position) : Type 0 where
   pub points-left : (x : ℕ) → bit (at .left) x ≡ true → x < p .points
   pub disclosed : (l : ℕ) → bit (at .values) l ≡ true → bit (at .left) (networkOf p .disclosing l) ≡ false
   pub above : List Step
-  pub reached : LeadTo p (startPosition p) above at
+  pub legal : LegalPath (networkOf p) (start (networkOf p)) above
+  pub reached : at ≡ positionAlong (startPosition p) above
+  pub stands : stateOf p at ≡ stateAfter (networkOf p) (start (networkOf p)) above
 
 -- every constraint is kept so far, by the points performed and the letters that they disclose: `keepsSoFarAt` of the state (`so-far-is` of
 -- proofs/SoFarLaws.antt)

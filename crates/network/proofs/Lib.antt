@@ -20,5 +20,7 @@ pub mod SizeLaws
 pub mod PolicyLaws
 pub mod CrewLaws
 pub mod StepsLaws
+pub mod RunningSetLaws
 pub mod Cases
+pub mod RunningSetCases
 pub mod Theorems

@@ -19,3 +19,4 @@ pub mod Search
 pub mod Policy
 pub mod Crew
 pub mod Walks
+pub mod RunningSet
