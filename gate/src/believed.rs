@@ -33,7 +33,7 @@ pub struct Statement<'a> {
 }
 
 /// The statements, in the order of the documents.
-pub const STATEMENTS: [Statement; 8] = [
+pub const STATEMENTS: [Statement; 9] = [
     Statement { page: CALLS, title: "Demand 1", word: "demand 1", roots: &[("demands", "Demand1", "Demand1")] },
     Statement { page: PAGE, title: "Demand 2", word: "demand 2", roots: &[("demands", "Demand2", "Demand2")] },
     Statement { page: PAGE, title: "Demand 3", word: "demand 3", roots: &[("demands", "Demand3", "Demand3")] },
@@ -78,6 +78,12 @@ pub const STATEMENTS: [Statement; 8] = [
         title: "Card 2: which step must come before which",
         word: "card 2",
         roots: &[("demands", "ForcedOrder", "ForcedOrder")],
+    },
+    Statement {
+        page: CARDS,
+        title: "Card 3: the set of steps done",
+        word: "card 3",
+        roots: &[("network", "RunningSet", "RunningSet"), ("game", "Carried", "carried")],
     },
 ];
 

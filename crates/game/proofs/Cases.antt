@@ -11,7 +11,8 @@ use Rattle.plan.proofs.Cases.{letter, plan}
 use Rattle.tree.specs.declared.Node.{Node}
 use Rattle.tree.specs.Parts.{moveOf}
 use Rattle.game.specs.declared.Position.{Position}
-use Rattle.game.specs.Position.{stateOf, startPosition, isLegal, positionAfter}
+use Rattle.game.specs.Carried.{startPosition, positionAfter}
+use Rattle.game.specs.Position.{stateOf, isLegal}
 
 -- slots 0 to 2; condition 0 at point 0, decision 1 at point 1
 abbrev pub two-points : Plan

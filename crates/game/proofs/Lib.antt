@@ -2,8 +2,8 @@
 pub mod CodeLaws
 pub mod LegalLaws
 pub mod PathLaws
-pub mod PerformedTheorems
 pub mod PositionLaws
-pub mod SoFarLaws
 pub mod NextLaws
+pub mod PerformedTheorems
+pub mod SoFarLaws
 pub mod Cases

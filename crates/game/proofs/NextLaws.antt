@@ -14,7 +14,8 @@ use Rattle.plan.proofs.OutcomeLaws.{numbered-is-outcome}
 use Rattle.tree.specs.declared.Node.{Node}
 use Rattle.tree.specs.Parts.{moveOf}
 use Rattle.game.specs.declared.Position.{Position}
-use Rattle.game.specs.Position.{stateOf, Proper, positionAfter}
+use Rattle.game.specs.Carried.{positionAfter}
+use Rattle.game.specs.Position.{stateOf, Proper}
 use Rattle.game.proofs.PositionLaws.{after-is, after-proper, fewer}
 
 -- the position after outcome number k of a move
@@ -24,10 +25,10 @@ next p at v k = positionAfter at v (submask 8 (bit (heardBy p (v .points))) k)
 module _
     (p : Plan) (wf : WellFormed p) (at : Position) (ok : Proper p at) (v : Node) (lg : Legal (networkOf p) (stateOf p at) (moveOf v))
     (k : ℕ) where
-  outcome-is : Outcome (networkOf p) (moveOf v) (submask 8 (bit (heardBy p (v .points))) k)
+  pub outcome-is : Outcome (networkOf p) (moveOf v) (submask 8 (bit (heardBy p (v .points))) k)
   outcome-is = rw (numbered-is-outcome p (wf .head .letters) (moveOf v) k) (outcome-at-is (networkOf p) (moveOf v) k)
 
-  pub next-proper : Proper p (next p at v k)
+  unfoldable pub next-proper : Proper p (next p at v k)
   next-proper = after-proper p wf at v _ ok lg outcome-is
 
   pub next-fewer : count 8 (bit (next p at v k .left)) < count 8 (bit (at .left))

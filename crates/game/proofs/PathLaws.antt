@@ -11,23 +11,18 @@ use Rattle.network.specs.RunningSet.{PerformedOn}
 use Rattle.network.proofs.Booleans.{says-or}
 use Rattle.network.proofs.MaskLaws.{bit-mask, in-mask}
 use Rattle.plan.proofs.SliceLaws.{length-listed}
-use Rattle.tree.specs.Parts.{nodeOf}
 use Rattle.game.specs.declared.Position.{Position}
-use Rattle.game.specs.Position.{positionAfter, positionAlong}
+use Rattle.game.specs.Carried.{positionAfterStep, positionAlong}
 
--- the position after a step
-abbrev pub stepped : Position → Step → Position
-stepped at st = positionAfter at (nodeOf (st .instruction)) (st .report)
-
-pub along-on : (path : List Step) (from : Position) (st : Step) → positionAlong from (path ++ (st ∷ [])) ≡ stepped (positionAlong from path) st
+pub along-on : (path : List Step) (from : Position) (st : Step) → positionAlong from (path ++ (st ∷ [])) ≡ positionAfterStep (positionAlong from path) st
 unfolding positionAlong
 along-on [] from st = refl
-along-on (first ∷ path) from st = along-on path (stepped from first) st
+along-on (first ∷ path) from st = along-on path (positionAfterStep from first) st
 
 pub along-long : (path : List Step) (from : Position) → length (from .slots) ≡ 8 → length (positionAlong from path .slots) ≡ 8
 unfolding positionAlong
 along-long [] from long = long
-along-long (st ∷ path) from long = along-long path (stepped from st) (length-listed 8 _)
+along-long (st ∷ path) from long = along-long path (positionAfterStep from st) (length-listed 8 _)
 
 module _ (x : ℕ) where
   -- the set fits a byte
@@ -36,7 +31,7 @@ module _ (x : ℕ) where
       x < 8
   unfolding positionAlong
   performed-byte [] from h y = h y
-  performed-byte (st ∷ path) from h y = performed-byte path (stepped from st) (λ z. in-mask 8 _ x z .0) y
+  performed-byte (st ∷ path) from h y = performed-byte path (positionAfterStep from st) (λ z. in-mask 8 _ x z .0) y
 
   -- performed before the path or on it
   pub performed-along :
@@ -45,10 +40,10 @@ module _ (x : ℕ) where
   unfolding positionAlong Some
   performed-along lt [] from = (inl, λ h. ⊎-elim (λ y. y) absurd h)
   performed-along lt (st ∷ path) from =
-      let rest = performed-along lt path (stepped from st) in
+      let rest = performed-along lt path (positionAfterStep from st) in
       let was = bit (from .performed) x in
       let now = bit (st .instruction .points) x in
-      let here : bit (stepped from st .performed) x ≡ (was || now) = bit-mask 8 _ x lt in
+      let here : bit (positionAfterStep from st .performed) x ≡ (was || now) = bit-mask 8 _ x lt in
       let or = says-or {a = was} {b = now} (λ y. y, λ y. y) (λ y. y, λ y. y) in (
         λ y. ⊎-elim (λ z. ⊎-elim inl (λ q. inr (inl q)) (or .0 (sym here ∙ z))) (λ q. inr (inr q)) (rest .0 y),
         λ h. rest .1 (⊎-elim (λ z. inl (here ∙ or .1 (inl z))) (λ q. ⊎-elim (λ z. inl (here ∙ or .1 (inr z))) inr q) h),

@@ -29,7 +29,8 @@ use Rattle.plan.proofs.SliceLaws.{all-same, length-listed, get-listed}
 use Rattle.tree.specs.declared.Node.{Node}
 use Rattle.tree.specs.Parts.{moveOf}
 use Rattle.game.specs.declared.Position.{Position}
-use Rattle.game.specs.Position.{stateOf, Proper, startPosition, positionAfter, positionAlong}
+use Rattle.game.specs.Carried.{startPosition, positionAfter, positionAlong}
+use Rattle.game.specs.Position.{stateOf, Proper}
 use Rattle.game.proofs.PathLaws.{along-on, along-long}
 
 -- no letter is set true where none is
@@ -66,7 +67,7 @@ module _ (p : Plan) (wf : WellFormed p) where
       let decided = none-set (p .letters) (decision net) in
       λ i. record { open-from = 0; left = left i; slots = slots i; heard = heard i; decided = decided i }
 
-  pub start-proper : Proper p (startPosition p)
+  unfoldable pub start-proper : Proper p (startPosition p)
   unfolding LegalPath positionAlong stateAfter
   start-proper =
       record {
@@ -110,14 +111,14 @@ module _ (p : Plan) (wf : WellFormed p) where
   after-long at v o = length-listed 8 _
 
   -- not left before, or performed: not left after
-  gone :
+  pub gone :
       (at : Position) (v : Node) (o x : ℕ) → (bit (at .left) x && not (bit (v .points) x)) ≡ false →
       bit (positionAfter at v o .left) x ≡ false
   gone at v o x z = by-test (bit (positionAfter at v o .left) x) (λ y. clash (in-mask 8 _ x y .1) z) (λ n. n)
 
   module _ (at : Position) (v : Node) (o : ℕ) (ok : Proper p at) (lg : Legal net (stateOf p at) (moveOf v)) where
-    performed : (x : ℕ) → bit (v .points) x ≡ true → bit (positionAfter at v o .left) x ≡ false
-    performed x y = gone at v o x (rw (y, and-false))
+    pub left-no-more : (x : ℕ) → bit (v .points) x ≡ true → bit (positionAfter at v o .left) x ≡ false
+    left-no-more x y = gone at v o x (rw (y, and-false))
 
     -- a letter that the move discloses was not set before
     unset : (l : ℕ) → bit (v .points) (net .disclosing l) ≡ true → bit (at .values) l ≡ false
@@ -130,7 +131,7 @@ module _ (p : Plan) (wf : WellFormed p) where
         let lt = x .1 in
         count-drop 8 (bit (at .left)) (bit (positionAfter at v o .left))
         (λ i l y. and-left (bit (at .left) i) (not (bit (v .points) i)) (in-mask 8 _ i y .1)) (x .0) (omega arith)
-        (lg .not-yet (x .0) (x .2)) (performed (x .0) (x .2))
+        (lg .not-yet (x .0) (x .2)) (left-no-more (x .0) (x .2))
 
     module _ (out : Outcome net (moveOf v) o) where
       -- the value of a letter after the move
@@ -197,7 +198,7 @@ module _ (p : Plan) (wf : WellFormed p) where
           let decided = mask-after (decision net) (settles net (moveOf v)) (bit (v .choices)) decided-after in
           λ i. record { open-from = next i; left = left i; slots = slots i; heard = heard i; decided = decided i }
 
-      pub after-proper : Proper p (positionAfter at v o)
+      unfoldable pub after-proper : Proper p (positionAfter at v o)
       after-proper =
           record {
             points-left = λ x y. ok .points-left x (and-left (bit (at .left) x) (not (bit (v .points) x)) (in-mask 8 _ x y .1));
@@ -205,8 +206,8 @@ module _ (p : Plan) (wf : WellFormed p) where
                 by-test (bit (at .values) l)
                 (λ b. gone at v o x (rw (ok .disclosed l b)))
                 (λ z. by-test (bit (v .choices) l)
-                (λ b. performed x (and-right (decision net l) (bit (v .points) x) (lg .disclosed l b)))
-                (λ w. performed x (heard-point net (moveOf v) l (out l (rw (z, w) at (in-mask 8 _ l y .1))))));
+                (λ b. left-no-more x (and-right (decision net l) (bit (v .points) x) (lg .disclosed l b)))
+                (λ w. left-no-more x (heard-point net (moveOf v) l (out l (rw (z, w) at (in-mask 8 _ l y .1))))));
             above = ok .above ++ (step ∷ []);
             legal = legal-on net (ok .above) (start net) step (ok .legal) (subst (λ (s : State). Legal net s (moveOf v)) (ok .stands) lg) out;
             reached = ap (λ (u : Position). positionAfter u v o) (ok .reached) ∙ sym (along-on (ok .above) (startPosition p) step);

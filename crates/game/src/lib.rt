@@ -6,10 +6,11 @@ ghost use mathlib.Core.Path.{_≡_};
 ghost use Rattle.network.specs.Mask.{mask};
 ghost use lib.Dec.{ltb};
 ghost use Rattle.tree.specs.Parts.{moveOf};
-ghost use Rattle.game.specs.Position.{stateOf, slotsAfter, isLegal, startPosition, positionAfter, keepsSoFarIn};
+ghost use Rattle.game.specs.Carried.{slotsAfter, startPosition, positionAfter};
+ghost use Rattle.game.specs.Position.{stateOf, isLegal, keepsSoFarIn};
 
-// Where the game stands on a path: the first slot still open, the points not yet performed, the points performed on the path above, the
-// letters set true, and the slot of each point that is performed.
+// Where the game stands on a path: the first slot still open, the points not yet performed, the points performed on the path above (card 3's
+// running value), the letters set true, and the slot of each point that is performed.
 pub struct Position {
     pub earliest: u16,
     pub left: u8,
@@ -67,7 +68,7 @@ pub fn slots_after(slots: [u8; 8], points: u8, slot: u8) -> [u8; 8]
     out
 }
 
-// The position after a move and its outcome.
+// The position after a move and its outcome. One operation adds the move's points to those performed above it.
 pub fn after(at: Position, v: Node, outcome: u8) -> Position
     ensures { λ r. ⌜ r ≡ positionAfter at v outcome ⌝ }
 {
@@ -81,7 +82,7 @@ pub fn after(at: Position, v: Node, outcome: u8) -> Position
     }
 }
 
-// Whether every constraint is kept so far at this position. The letters known there are those that the points performed disclose.
+// Whether every constraint is kept so far at this position, by the points performed and the letters that they disclose.
 pub fn keeps_so_far(plan: Plan, at: Position) -> bool
     ensures { λ r. ⌜ r ≡ keepsSoFarIn plan at ⌝ }
 {

@@ -9,7 +9,7 @@ use Rattle.plan.specs.declared.Plan.{Plan}
 use Rattle.plan.proofs.Cases.{letter, plan}
 use Rattle.tree.specs.declared.Node.{Node}
 use Rattle.game.specs.declared.Position.{Position}
-use Rattle.game.specs.Position.{startPosition}
+use Rattle.game.specs.Carried.{startPosition}
 use Rattle.game.proofs.Cases.{two-points, node, position, midway}
 use Rattle.moves.specs.declared.Step.{Step}
 use Rattle.moves.specs.declared.Step.the-variants as step

@@ -76,7 +76,7 @@ and-masks n f g =
     (λ lt. rw (bit-mask n f i lt, bit-mask n g i lt, bit-mask n (λ i. f i && g i) i lt))
     (λ ge. rw (bit-mask-above n f i (omega arith), bit-mask-above n (λ i. f i && g i) i (omega arith))))
 
--- the members of one of three sets
+-- the members of one of two sets, of one of three
 pub or-two : (n a b : ℕ) → a < 2 ^ n → b < 2 ^ n → bitOr a b ≡ mask n (λ i. bit a i || bit b i)
 or-two n a b ha hb = mask-is n (bitOr a b) _ (or-lt n a b ha hb) (λ i lt. bit-or a b i)
 

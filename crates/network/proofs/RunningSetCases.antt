@@ -8,7 +8,7 @@ use Prim.Native.Nat.{ℕ, zero, suc}
 use native.Mathlib.Omega.{arith}
 use Rattle.network.specs.Mask.{bit, mask}
 use Rattle.network.specs.Network.{Network}
-use Rattle.network.specs.Game.{start, after, Legal, Outcome}
+use Rattle.network.specs.Game.{start, after}
 use Rattle.network.specs.Crew.{Step, Some}
 use Rattle.network.specs.Walks.{stateAfter}
 use Rattle.network.specs.RunningSet.{LegalPath, RunningSet}
@@ -89,8 +89,8 @@ never-added r = clash (r .exactly (first ∷ []) one-step 0 .1 (inl refl)) (bit-
 
 -- the complement: the points left
 pub complement : ¬ RunningSet two-points (λ path. stateAfter two-points (start two-points) path .left)
-unfolding start mask stateAfter
-complement r = let e = r .root-empty in absurd (omega arith)
+unfolding bit mask start stateAfter LegalPath Some
+complement r = absurd (r .exactly [] tt 0 .0 refl)
 
 -- points left beside the points performed
 pub left-included : ¬ RunningSet two-points (λ path. 3)

@@ -1,8 +1,8 @@
 -- Laws of legal paths: one step more, what is left behind them, and the running set of the points that they perform. Only the checker need
 -- believe this file.
-use mathlib.Core.Path.{_≡_, refl, sym, _∙_, subst}
+use mathlib.Core.Path.{_≡_, refl, sym, subst}
 use mathlib.Core.Logic.{_↔_, inl, inr, ⊎-elim}
-use mathlib.Core.Bool.{true, false, not, _&&_}
+use mathlib.Core.Bool.{true}
 use mathlib.Core.List.{List, [], _∷_, _++_}
 use Prim.Native.Nat.{ℕ, _<_}
 use Rattle.network.specs.Mask.{bit}
@@ -12,9 +12,10 @@ use Rattle.network.specs.Tree.{Tree, done, node, Sound}
 use Rattle.network.specs.Crew.{Step, Some}
 use Rattle.network.specs.Walks.{Follows, stateAfter}
 use Rattle.network.specs.RunningSet.{LegalPath, PerformedOn, RunningSet}
-use Rattle.network.proofs.Booleans.{by-test, clash, both-ways, not-true, and-left, and-right, and-make}
+use Rattle.network.proofs.Booleans.{by-test, clash, both-ways}
 use Rattle.network.proofs.MaskLaws.{bits-ext}
-use Rattle.network.proofs.GameLaws.{start-inside, after-inside, left-is}
+use Rattle.network.proofs.GameLaws.{start-inside, after-inside, was-left, stays-left}
+use Rattle.network.proofs.StepsLaws.{step-legal, step-sound}
 
 module _ (net : Network) where
   abbrev stepped : State → Step → State
@@ -52,24 +53,24 @@ module _ (net : Network) where
   follows-legal E done s (st ∷ path) sd f = absurd f
   follows-legal E (node m next) s (st ∷ path) sd f =
       let o = st .report in (
-        subst (λ (k : Move). Legal net s k) (sym (f .0)) (sd .0),
+        step-legal net E m next s st path sd f,
         subst (λ (k : Move). Outcome net k o) (sym (f .0)) (f .1),
-        follows-legal E (next o) (after net s (st .instruction) o) path
-            (subst (λ (k : Move). Sound net E (next o) (after net s k o)) (sym (f .0)) (sd .1 o (f .1))) (f .2),
+        follows-legal E (next o) (after net s (st .instruction) o) path (step-sound net E m next s st path sd f) (f .2),
       )
 
   -- ---- what is left behind a path
 
   -- only points left are performed
-  pub was-left : (path : List Step) (s : State) (x : ℕ) → LegalPath net s path → PerformedOn path x → bit (s .left) x ≡ true
+  pub performed-was-left :
+      (path : List Step) (s : State) (x : ℕ) → LegalPath net s path → PerformedOn path x → bit (s .left) x ≡ true
   unfolding LegalPath Some
-  was-left [] s x l q = absurd q
-  was-left (st ∷ path) s x l q =
+  performed-was-left [] s x l q = absurd q
+  performed-was-left (st ∷ path) s x l q =
       ⊎-elim
       (λ y. l .0 .not-yet x y)
-      (λ r. let later = was-left path (stepped s st) x (l .2) r in
+      (λ r. let later = performed-was-left path (stepped s st) x (l .2) r in
       let lt = after-inside net s (st .instruction) (st .report) x later in
-      and-left (bit (s .left) x) (not (bit (st .instruction .points) x)) (sym (left-is net s (st .instruction) (st .report) x lt) ∙ later))
+      was-left net s (st .instruction) (st .report) x lt later .0)
       q
 
   -- left before it, and not performed on it
@@ -79,22 +80,21 @@ module _ (net : Network) where
   unfolding stateAfter Some
   left-along [] s x lt = (λ y. (y, λ q. q), λ h. h .0)
   left-along (st ∷ path) s x lt =
-      let rest = left-along path (stepped s st) x lt in
-      let was = bit (s .left) x in
-      let now = bit (st .instruction .points) x in
-      let here : bit (stepped s st .left) x ≡ (was && not now) = left-is net s (st .instruction) (st .report) x lt in (
+      let m = st .instruction in
+      let o = st .report in
+      let rest = left-along path (stepped s st) x lt in (
         λ y. let r = rest .0 y in
-            let both = sym here ∙ r .0 in
-            (and-left was (not now) both, λ q. ⊎-elim (λ z. clash z (not-true now (and-right was (not now) both))) (r .1) q),
+            let before = was-left net s m o x lt (r .0) in
+            (before .0, λ q. ⊎-elim (λ z. clash z (before .1)) (r .1) q),
         λ h. rest .1 (
-          here ∙ and-make {a = was} (h .0) (by-test now (λ z. absurd (h .1 (inl z))) (λ z. rw z)),
+          stays-left net s m o x lt (h .0) (by-test (bit (m .points) x) (λ z. absurd (h .1 (inl z))) (λ z. z)),
           λ q. h .1 (inr q),
         ),
       )
 
   -- ---- the running set
 
-  -- the points performed at each node make one: those of the node are left there, so they are not among them
+  -- the points performed above each node make one: those of the node itself are left there, so they are not among them
   pub running :
       (value : List Step → ℕ) → value [] ≡ 0 →
       ((path : List Step) → LegalPath net (start net) path → (x : ℕ) → (bit (value path) x ≡ true) ↔ PerformedOn path x) →
@@ -106,7 +106,7 @@ module _ (net : Network) where
         own-not-yet = λ path st l x y. let before = legal-before path (start net) st l in
             by-test (bit (value path) x)
             (λ z. let on = exactly path (before .0) x .0 z in
-            let lt = start-inside net x (was-left path (start net) x (before .0) on) in
+            let lt = start-inside net x (performed-was-left path (start net) x (before .0) on) in
             absurd (left-along path (start net) x lt .0 (before .1 .not-yet x y) .1 on))
             (λ z. z);
       }

@@ -37,24 +37,24 @@ module _ (net : Network) (s : State) (m : Move) (o : ℕ) (l : ℕ) (lt : l < ne
       (λ d. rw (d, decided-old net s m o l (decision-of net l lt d) n))
       (λ c. rw (c, heard-old net s m o l (condition-of net l lt c) n))
 
+-- one step down a sound tree, said of the instruction that was followed
+module _
+    (net : Network) (E : State → Type 0) (m : Move) (next : ℕ → Tree) (s : State) (st : Step) (log : List Step)
+    (sd : Sound net E (node m next) s) (fo : Follows net (node m next) (st ∷ log)) where
+  pub step-legal : Legal net s (st .instruction)
+  unfolding Sound Follows
+  step-legal = subst (λ (x : Move). Legal net s x) (sym (fo .0)) (sd .0)
+
+  pub step-sound : Sound net E (next (st .report)) (after net s (st .instruction) (st .report))
+  unfolding Sound Follows
+  step-sound =
+      subst (λ (x : Move). Sound net E (next (st .report)) (after net s x (st .report))) (sym (fo .0)) (sd .1 (st .report) (fo .1))
+
+  pub step-follows : Follows net (next (st .report)) log
+  unfolding Follows
+  step-follows = fo .2
+
 module _ (net : Network) (wf : IsNetwork net) (E : State → Type 0) where
-  -- one step down a sound tree, said of the instruction that was followed
-  module _
-      (m : Move) (next : ℕ → Tree) (s : State) (st : Step) (log : List Step) (sd : Sound net E (node m next) s)
-      (fo : Follows net (node m next) (st ∷ log)) where
-    step-legal : Legal net s (st .instruction)
-    unfolding Sound Follows
-    step-legal = subst (λ (x : Move). Legal net s x) (sym (fo .0)) (sd .0)
-
-    step-sound : Sound net E (next (st .report)) (after net s (st .instruction) (st .report))
-    unfolding Sound Follows
-    step-sound =
-        subst (λ (x : Move). Sound net E (next (st .report)) (after net s x (st .report))) (sym (fo .0)) (sd .1 (st .report) (fo .1))
-
-    step-follows : Follows net (next (st .report)) log
-    unfolding Follows
-    step-follows = fo .2
-
   -- what only a move that performs x changes stays as it is once x is performed
   stays :
       {A : Type 0} (f : State → A) (x : ℕ) → x < net .points →
@@ -67,9 +67,9 @@ module _ (net : Network) (wf : IsNetwork net) (E : State → Type 0) where
   stays f x lt old (node m next) s (st ∷ log) sd fo e =
       let k = st .instruction in
       let o = st .report in
-      stays f x lt old (next o) (after net s k o) log (step-sound m next s st log sd fo) (step-follows m next s st log sd fo)
+      stays f x lt old (next o) (after net s k o) log (step-sound net E m next s st log sd fo) (step-follows net E m next s st log sd fo)
       (stays-performed net s k o x lt e)
-      ∙ old s k o (not-again net s k (step-legal m next s st log sd fo) x e)
+      ∙ old s k o (not-again net s k (step-legal net E m next s st log sd fo) x e)
 
   -- a point that is not left is not performed again
   never :
@@ -82,8 +82,8 @@ module _ (net : Network) (wf : IsNetwork net) (E : State → Type 0) where
       let k = st .instruction in
       let o = st .report in
       rw (
-        not-again net s k (step-legal m next s st log sd fo) x e,
-        never (next o) (after net s k o) log x (step-sound m next s st log sd fo) (step-follows m next s st log sd fo) lt
+        not-again net s k (step-legal net E m next s st log sd fo) x e,
+        never (next o) (after net s k o) log x (step-sound net E m next s st log sd fo) (step-follows net E m next s st log sd fo) lt
             (stays-performed net s k o x lt e),
       )
 
@@ -98,8 +98,8 @@ module _ (net : Network) (wf : IsNetwork net) (E : State → Type 0) where
   once (node m next) s (st ∷ log) x sd fo en lt e =
       let k = st .instruction in
       let o = st .report in
-      let sd′ = step-sound m next s st log sd fo in
-      let fo′ = step-follows m next s st log sd fo in
+      let sd′ = step-sound net E m next s st log sd fo in
+      let fo′ = step-follows net E m next s st log sd fo in
       by-test (bit (k .points) x)
       (λ y. rw (y, never (next o) (after net s k o) log x sd′ fo′ lt (performed net s k o x lt y)))
       (λ n. rw (n, once (next o) (after net s k o) log x sd′ fo′ en lt (stays-left net s k o x lt e n)))
@@ -115,12 +115,12 @@ module _ (net : Network) (wf : IsNetwork net) (E : State → Type 0) where
   slot-is (node m next) s (st ∷ log) x sd fo en lt e =
       let k = st .instruction in
       let o = st .report in
-      let sd′ = step-sound m next s st log sd fo in
-      let fo′ = step-follows m next s st log sd fo in
+      let sd′ = step-sound net E m next s st log sd fo in
+      let fo′ = step-follows net E m next s st log sd fo in
       by-test (bit (k .points) x)
       (λ y. let same = stays (λ z. z .slots x) x lt (λ z k′ o′ n. slot-old net z k′ o′ x n) (next o) (after net s k o) log sd′ fo′
       (performed net s k o x lt y) in
-      rw y (sym (same ∙ slot-new net s k o x y), step-legal m next s st log sd fo .within))
+      rw y (sym (same ∙ slot-new net s k o x y), step-legal net E m next s st log sd fo .within))
       (λ n. rw n (slot-is (next o) (after net s k o) log x sd′ fo′ en lt (stays-left net s k o x lt e n)))
 
   -- .. and each letter whose point was left has the value that the game has for it
@@ -137,8 +137,8 @@ module _ (net : Network) (wf : IsNetwork net) (E : State → Type 0) where
       let o = st .report in
       let x = net .disclosing l in
       let xlt = wf .disclosed l lt in
-      let sd′ = step-sound m next s st log sd fo in
-      let fo′ = step-follows m next s st log sd fo in
+      let sd′ = step-sound net E m next s st log sd fo in
+      let fo′ = step-follows net E m next s st log sd fo in
       by-test (bit (k .points) x)
       (λ y. let same = stays (λ z. combined net (z .heard) (z .decided) l) x xlt (λ z k′ o′ n. value-old net z k′ o′ l lt n) (next o)
       (after net s k o) log sd′ fo′ (performed net s k o x xlt y) in
@@ -155,8 +155,8 @@ module _ (net : Network) (wf : IsNetwork net) (E : State → Type 0) where
       let k = st .instruction in
       let o = st .report in
       let r : length log ≤ pointsLeft net (after net s k o)
-      = steps-length (next o) (after net s k o) log (step-sound m next s st log sd fo) (step-follows m next s st log sd fo) in
-      let q : pointsLeft net (after net s k o) < pointsLeft net s = fewer-left net s k o (step-legal m next s st log sd fo) in
+      = steps-length (next o) (after net s k o) log (step-sound net E m next s st log sd fo) (step-follows net E m next s st log sd fo) in
+      let q : pointsLeft net (after net s k o) < pointsLeft net s = fewer-left net s k o (step-legal net E m next s st log sd fo) in
       omega arith
 
 -- the constraints are kept, by the steps alone

@@ -1,5 +1,5 @@
--- The six theorems on networks and those of card 1, gathered. Read the statements against specs/; the proofs are cited, and only the checker
--- need believe them.
+-- The six theorems on networks and those of cards 1 and 3, gathered. Read the statements against specs/; the proofs are cited, and only the
+-- checker need believe them.
 use mathlib.Core.Path.{_≡_}
 use mathlib.Core.Logic.{_↔_}
 use mathlib.Core.List.{List}
@@ -20,6 +20,7 @@ use Rattle.network.specs.FirstMoves.{CanBeWon, FirstMoves}
 use Rattle.network.specs.Search.{firstTree, hopeless}
 use Rattle.network.specs.Policy.{Policy, SucceedsAlways}
 use Rattle.network.specs.Crew.{Step, timesPerformed, slotBySteps, valueBySteps, HeardAlike, ToldAlike}
+use Rattle.network.specs.RunningSet.{LegalPath, RunningSet}
 use Rattle.network.proofs.NetworkLaws as network
 use Rattle.network.proofs.LabelTestLaws as label
 use Rattle.network.proofs.SoFarLaws as so-far
@@ -30,6 +31,7 @@ use Rattle.network.proofs.PolicyLaws as policy
 use Rattle.network.proofs.GameLaws as game
 use Rattle.network.proofs.CrewLaws as crew
 use Rattle.network.proofs.StepsLaws as steps
+use Rattle.network.proofs.RunningSetLaws as running
 
 -- Card 1. The label test by the letters known so far: fails, holds and open exactly where the card says so, never open with all letters of
 -- the label known.
@@ -124,6 +126,15 @@ module _ (net : Network) (wf : IsNetwork net) where
 
   pub winning-policy : (t : Tree) → Wins net t → (π : Policy) × SucceedsAlways net π
   winning-policy t w = policy.policy-exactly net wf .1 (tree.wins→consistent net wf t w)
+
+  -- Card 3. One value alone is the running set of the points performed. The steps that lead down to a node of a tree that is sound in shape are a
+  -- legal path, so that it speaks of each of them.
+  pub one-running-set :
+      (v w : List Step → ℕ) → RunningSet net v → RunningSet net w → (path : List Step) → LegalPath net (start net) path → v path ≡ w path
+  one-running-set = running.one-running-set net
+
+  pub legal-above : (t : Tree) → Shaped net t → (path : List Step) → Follows net t path → LegalPath net (start net) path
+  legal-above t sd path fo = running.follows-legal net (λ s. Unit {0}) t (start net) path sd fo
 
   -- Theorem 6, before it: a crew at the end of a tree that wins has performed every point and kept every relevant constraint.
   pub crew-at-end :

@@ -37,7 +37,8 @@ use Rattle.table.specs.Table.{Within, setTo, unknown, free, flipped, Win, Below
 use Rattle.table.proofs.TableLaws.{free-byte}
 use Rattle.table.proofs.SetToLaws.{part-within, set-to-bit, set-to-is}
 use Rattle.game.specs.declared.Position.{Position}
-use Rattle.game.specs.Position.{stateOf, Proper, slotsAfter}
+use Rattle.game.specs.Carried.{slotsAfter}
+use Rattle.game.specs.Position.{stateOf, Proper}
 use Rattle.game.proofs.PositionLaws.{value-is}
 use Rattle.pruning.specs.Pruning.{lettersAt, viewOf}
 use Rattle.pruning.proofs.SettingLaws.{flip-other, Won, final, unheard, undecided, settle, unheard-condition, undecided-decision, settled-unheard, settled-undecided, settled-known, settled-small, settled-path, settled-on, on-only, on-undecided, on-known, on-small, on-keeps, slot-past, slot-ahead, slot-flip}

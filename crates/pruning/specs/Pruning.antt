@@ -13,7 +13,7 @@ use Rattle.plan.specs.Letters.{heardBy}
 use Rattle.plan.specs.Settled.{settledBy}
 use Rattle.table.specs.declared.View.{View}
 use Rattle.game.specs.declared.Position.{Position}
-use Rattle.game.specs.Position.{slotsAfter}
+use Rattle.game.specs.Carried.{slotsAfter}
 use Rattle.pruning.specs.declared.Outline.{Outline}
 
 -- a plan but for its constraints

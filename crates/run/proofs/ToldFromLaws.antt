@@ -24,7 +24,8 @@ use Rattle.tree.specs.declared.Node.{Node}
 use Rattle.tree.specs.Parts.{nodeAt}
 use Rattle.tree.specs.Parts.{fromNode, moveOf}
 use Rattle.game.specs.declared.Position.{Position}
-use Rattle.game.specs.Position.{stateOf, Proper, isLegal, startPosition, positionAfter}
+use Rattle.game.specs.Carried.{startPosition, positionAfter}
+use Rattle.game.specs.Position.{stateOf, Proper, isLegal}
 use Rattle.game.proofs.PositionLaws.{start-is, start-proper, inside-is, over-is-zero, after-long, after-proper, after-is}
 use Rattle.checker.specs.declared.Checked.the-variants as checked
 use Rattle.checker.specs.Checker.{subtreeAt, checkFault}

@@ -8,7 +8,8 @@ use borrow.Fn.PlainCycle.{Measures, is, falls, and}
 use lib.ListN.{length, drop, length-drop}
 use Rattle.network.specs.Mask.{bit, count}
 use Rattle.network.proofs.Booleans.{denied, granted}
-use Rattle.plan.proofs.SliceLaws.{rest-is}
+use Rattle.plan.proofs.SliceLaws.{rest, rest-is}
+use Rattle.game.specs.declared.Position.{Position}
 use Rattle.game.specs.Position.{stateOf}
 use Rattle.game.proofs.NextLaws.{next}
 use Rattle.checker.specs.declared.Checked.the-variants as checked
@@ -99,7 +100,13 @@ is-child : (t : ℕ) (c : subtree-lts.After-subtree (calls t) (entry t) subtree.
     let l = c .before .before .before .before .before .loop in
     let v = c .before .before .before .before .before .before .before .before .before .before .node-at .result in
     below (a .plan) (a .at) v (l .k) (drop (3 * l .count) (a .nodes .now)) ≡ c .subtree .result
-is-child t c = sym (c .subtree .ensures ∙ rw (is-next t (c .before .before), rest-is) refl)
+is-child t c =
+    let a = c .before .before .before .before .before .before .before .before .before .before .before .before .before .before .before .before .args in
+    let l = c .before .before .before .before .before .loop in
+    let v = c .before .before .before .before .before .before .before .before .before .before .node-at .result in
+    sym (c .subtree .ensures
+    ∙ ap (λ (u : Position). subtreeAt (a .plan) (stateOf (a .plan) u) (rest (3 * l .count) (a .nodes .now))) (is-next t (c .before .before))
+    ∙ ap (below (a .plan) (a .at) v (l .k)) (rest-is (3 * l .count) (a .nodes .now)))
 
 -- its nodes lie within the bytes
 child-fits : (t : ℕ) (c : subtree-lts.After-known-told (calls t) (entry t) subtree.Post Inv μ) →

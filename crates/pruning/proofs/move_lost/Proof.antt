@@ -10,7 +10,8 @@ use Rattle.network.specs.FirstMoves.{CanBeWon}
 use Rattle.network.proofs.Booleans.{clash}
 use Rattle.plan.specs.Plan.{networkOf}
 use Rattle.plan.specs.Letters.{heardBy}
-use Rattle.game.specs.Position.{stateOf, Proper, positionAfter}
+use Rattle.game.specs.Carried.{positionAfter}
+use Rattle.game.specs.Position.{stateOf, Proper}
 use Rattle.game.proofs.NextLaws.{next, next-proper}
 use Rattle.pruning.proofs.MoveLaws.{move-wins-nothing}
 use Rattle.pruning.proofs.move_lost.Statement.{statement}

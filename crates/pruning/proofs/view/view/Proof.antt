@@ -5,7 +5,7 @@ use Prim.Native.Nat.{ℕ}
 use lib.ListN.{getD}
 use Rattle.plan.specs.declared.Letter.{Letter}
 use Rattle.plan.specs.Plan.{zeroLetter, listed}
-use Rattle.game.specs.Position.{slotsAfter}
+use Rattle.game.specs.Carried.{slotsAfter}
 use Rattle.pruning.specs.declared.Outline.{Outline}
 use Rattle.pruning.specs.Pruning.{lettersAt}
 use borrow.Author.Needs.{needs}

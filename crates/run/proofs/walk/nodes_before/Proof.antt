@@ -1,5 +1,5 @@
 -- By the laws of the walk: outcomes are passed until the one reported comes. Only the checker need believe this file.
-use mathlib.Core.Path.{_≡_, refl, sym, ap, _∙_, subst}
+use mathlib.Core.Path.{_≡_, sym, ap, _∙_, subst}
 use mathlib.Core.Bool.{true}
 use Prim.Native.Nat.{ℕ, _+_, _-_, _*_, _≤_}
 use native.Mathlib.Omega.{arith}
@@ -10,12 +10,15 @@ use Rattle.network.specs.Below.{rank}
 use Rattle.network.specs.Game.{hears}
 use Rattle.plan.specs.Plan.{networkOf}
 use Rattle.plan.specs.Letters.{heardBy}
-use Rattle.plan.proofs.SliceLaws.{rest-is}
+use Rattle.plan.proofs.SliceLaws.{rest, rest-is}
 use Rattle.tree.specs.declared.Node.{Node}
 use Rattle.tree.specs.Parts.{fromNode, moveOf}
-use Rattle.game.specs.Position.{stateOf, isLegal, positionAfter}
+use Rattle.game.specs.declared.Position.{Position}
+use Rattle.game.specs.Carried.{positionAfter}
+use Rattle.game.specs.Position.{stateOf, isLegal}
 use Rattle.game.proofs.NextLaws.{next}
 use Rattle.checker.specs.declared.Checked.the-variants as checked
+use Rattle.checker.specs.Checker.{subtreeAt}
 use Rattle.checker.proofs.CodeLaws.{below}
 use Rattle.run.specs.Told.{mayReport}
 use Rattle.run.proofs.WalkLaws.{Passed, Here, node-here, pass-none, pass-less, pass-small, pass-fits}
@@ -65,7 +68,12 @@ is-child : (c : tie.After-subtree Inv-loop μ-loop) →
     let a = c .before .before .before .before .before .before .before .before .before .args in
     let l = c .before .before .before .before .loop in
     below (a .plan) (a .at) (c .before .before .before .before .before .before .before .node-at .result) (l .k) (fromNode (a .nodes .now) (l .count)) ≡ c .subtree .result
-is-child c = sym (c .subtree .ensures ∙ rw (is-next (c .before .before), rest-is) refl)
+is-child c =
+    let a = c .before .before .before .before .before .before .before .before .before .args in
+    let l = c .before .before .before .before .loop in
+    sym (c .subtree .ensures
+    ∙ ap (λ (u : Position). subtreeAt (a .plan) (stateOf (a .plan) u) (rest (3 * l .count) (a .nodes .now))) (is-next (c .before .before))
+    ∙ ap (below (a .plan) (a .at) (c .before .before .before .before .before .before .before .node-at .result) (l .k)) (rest-is (3 * l .count) (a .nodes .now)))
 
 -- it is sound
 sound-child : (c : tie.After-known-told Inv-loop μ-loop) →
