@@ -18,8 +18,8 @@ pub enum Checked {
 }
 
 // The subtree at the front of the bytes, below a path that stands at this position, which carries the points performed on that path. With each
-// level fewer points are left. What is kept so far is tested at each node, by those points and the letters that they disclose; the shape is read
-// to its end all the same, since 6 comes before 7.
+// level fewer points are left. What is kept so far is tested at each node, by the points performed and the letters that they disclose; the
+// shape is read to its end all the same, since 6 comes before 7.
 pub fn subtree(plan: Plan, nodes: &[u8], at: Position) -> Checked
     requires { ⌜ WellFormed plan × Proper plan at ⌝ }
     ensures { λ r. ⌜ r ≡ subtreeAt plan (stateOf plan at) (now (nodes .entry)) ⌝ }

@@ -8,7 +8,7 @@ use Prim.Native.Nat.{ℕ, _<_}
 use native.Mathlib.Omega.{arith}
 use lib.Dec.{ltb}
 use Rattle.network.specs.Mask.{bit, submask}
-use Rattle.network.specs.Game.{State, start, Legal}
+use Rattle.network.specs.Game.{State, start, Legal, Outcome}
 use Rattle.network.specs.Tree.{Tree, Shaped}
 use Rattle.network.specs.Crew.{Step}
 use Rattle.network.specs.Walks.{Follows}
@@ -54,18 +54,25 @@ module _ (p : Plan) (wf : WellFormed p) where
   pub performed-above : (at : Position) (ok : Proper p at) (x : ℕ) → (bit (at .performed) x ≡ true) ↔ PerformedOn (ok .above) x
   performed-above at ok x = rw (ok .reached) (running-set .exactly (ok .above) (ok .legal) x)
 
-  -- The path above the first position is empty. The path above a child is that above its parent, and the parent's move with the outcome that
-  -- leads to the child.
+  -- The paths that the proofs hand on: at the first position an empty one; after a move and its outcome the path above the move and this step,
+  -- so also after outcome number k, where the checker and the search go on.
   pub root-above : start-proper p wf .above ≡ []
   unfolding start-proper
   root-above = refl
 
-  pub child-above :
-      (at : Position) (ok : Proper p at) (v : Node) (lg : Legal (networkOf p) (stateOf p at) (moveOf v)) (k : ℕ) →
-      next-proper p wf at ok v lg k .above
-      ≡ ok .above ++ (record { instruction = moveOf v; report = submask 8 (bit (heardBy p (v .points))) k } ∷ [])
-  unfolding after-proper next-proper
-  child-above at ok v lg k = refl
+  module _ (at : Position) (ok : Proper p at) (v : Node) (lg : Legal (networkOf p) (stateOf p at) (moveOf v)) where
+    pub after-above :
+        (o : ℕ) (out : Outcome (networkOf p) (moveOf v) o) →
+        after-proper p wf at v o ok lg out .above ≡ ok .above ++ (record { instruction = moveOf v; report = o } ∷ [])
+    unfolding after-proper
+    after-above o out = refl
+
+    pub next-above :
+        (k : ℕ) →
+        next-proper p wf at ok v lg k .above
+        ≡ ok .above ++ (record { instruction = moveOf v; report = submask 8 (bit (heardBy p (v .points))) k } ∷ [])
+    unfolding after-proper next-proper
+    next-above k = refl
 
   -- whichever paths lead to a position, they perform the same points
   pub same-above : (at : Position) (ok ok′ : Proper p at) (x : ℕ) → PerformedOn (ok .above) x ↔ PerformedOn (ok′ .above) x

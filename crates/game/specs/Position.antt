@@ -50,8 +50,8 @@ pub record Proper (p : Plan) (at : Position) : Type 0 where
   pub reached : at ≡ positionAlong (startPosition p) above
   pub stands : stateOf p at ≡ stateAfter (networkOf p) (start (networkOf p)) above
 
--- every constraint is kept so far, by the points performed and the letters that they disclose: `keepsSoFarAt` of the state (`so-far-is` of
--- proofs/SoFarLaws.antt)
+-- every constraint is kept so far, by the points performed and the letters that they disclose: at a proper position `keepsSoFarAt` of its
+-- state (`so-far-is` of proofs/SoFarLaws.antt)
 abbrev pub keepsSoFarIn : Plan → Position → Bool
 keepsSoFarIn p at =
     keepsSoFar (networkOf p) (knownBy p (at .performed)) (at .performed) (slotsIn (at .slots)) (bit (at .values))

@@ -111,7 +111,7 @@ module _ (net : Network) where
             (λ z. z);
       }
 
-  -- there is one running set only
+  -- any two running sets agree on every legal path
   pub one-running-set :
       (v w : List Step → ℕ) → RunningSet net v → RunningSet net w → (path : List Step) → LegalPath net (start net) path → v path ≡ w path
   one-running-set v w rv rw′ path l =

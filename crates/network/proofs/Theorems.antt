@@ -127,8 +127,8 @@ module _ (net : Network) (wf : IsNetwork net) where
   pub winning-policy : (t : Tree) → Wins net t → (π : Policy) × SucceedsAlways net π
   winning-policy t w = policy.policy-exactly net wf .1 (tree.wins→consistent net wf t w)
 
-  -- Card 3. One value alone is the running set of the points performed. The steps that lead down to a node of a tree that is sound in shape are a
-  -- legal path, so that it speaks of each of them.
+  -- Card 3. Any two running sets of the points performed agree on every legal path. The steps that lead down to a node of a tree that is sound
+  -- in shape are a legal path, so that a running set speaks of each node.
   pub one-running-set :
       (v w : List Step → ℕ) → RunningSet net v → RunningSet net w → (path : List Step) → LegalPath net (start net) path → v path ≡ w path
   one-running-set = running.one-running-set net

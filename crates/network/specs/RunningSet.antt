@@ -22,7 +22,7 @@ abbrev pub PerformedOn : List Step → ℕ → Type 0
 PerformedOn path x = Some (λ st. bit (st .instruction .points) x ≡ true) path
 
 -- A running value (card 3's term), by the path above the node that is reached: empty at the root; at each node exactly the points performed
--- on the path above; the points of the node itself, the next step's where its move is legal, are not yet in it.
+-- on the path above; where the node's own move is legal, its points are not yet in it.
 pub record RunningSet (net : Network) (value : List Step → ℕ) : Type 0 where
   pub root-empty : value [] ≡ 0
   pub exactly : (path : List Step) → LegalPath net (start net) path → (x : ℕ) → (bit (value path) x ≡ true) ↔ PerformedOn path x

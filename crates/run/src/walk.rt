@@ -23,7 +23,7 @@ ghost use Rattle.run.specs.History.{reportsIn};
 ghost use Rattle.run.specs.Told.{mayReport, shownTold};
 
 // How many nodes stand before the child that this outcome leads to: the node at the front, and the subtrees of the outcomes before it. The
-// checker descends each of them from the position there, with the points performed above it.
+// checker descends each of them from the position after this node and that outcome, which carries the points performed above.
 fn nodes_before(plan: Plan, nodes: &[u8], at: Position, mask: u8) -> usize
     requires well_formed { ⌜ WellFormed plan × Proper plan at ⌝ }
     requires whole { ⌜ 3 ≤ length (now nodes) ⌝ }
