@@ -1,4 +1,5 @@
 // What the program prints for its input: the tree text, or one 7F frame.
+#![tactic(auto)]
 ghost use Rattle.std.specs.Prelude.{◌≡◌, true, length, replicate};
 ghost use Rattle.frame.specs.Texts.{refusal_text};
 ghost use Rattle.tree.specs.Nodes.{legal_length};
@@ -12,7 +13,7 @@ use plan_text::reading;
 use search::Searched;
 
 // A text: the first `length` of the bytes. Those behind it are zero.
-#[derive(Drop)]
+#[derive(Clone, Copy)]
 pub struct AnswerText {
     pub bytes: [u8; 1724],
     pub length: usize,

@@ -6,7 +6,7 @@ use run::History;
 use tree_text::TreeRead;
 
 // A plan, the bytes of a tree (the first `size` of `nodes`) and a history.
-#[derive(Drop)]
+#[derive(Clone, Copy)]
 pub struct Kept {
     pub plan: Plan,
     pub nodes: [u8; 600],

@@ -1,4 +1,5 @@
 // The checker of trees: yes, 6 or 7.
+#![tactic(auto)]
 ghost use Rattle.std.specs.Prelude.{◌≡◌};
 ghost use Rattle.plan.specs.Refusal.{judged_number};
 ghost use Rattle.plan.specs.WellFormed.{WellFormed};
@@ -10,7 +11,7 @@ use plan::{Judged, Plan, Refusal, letters};
 
 // What stands at the front of some bytes: no subtree that is sound in shape, or one of so many nodes, and whether every path of it keeps
 // every relevant constraint.
-#[derive(Drop)]
+#[derive(Clone, Copy)]
 pub enum Checked {
     Unsound,
     Sound(usize, bool),

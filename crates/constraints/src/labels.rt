@@ -9,7 +9,7 @@ ghost use Rattle.constraints.specs.Labels.{label, tested_as};
 const ALL_LETTERS: u8 = 255;
 
 // What the letters known so far say of a label (card 1's terms): it holds, it fails, or it is open.
-#[derive(Drop)]
+#[derive(Clone, Copy)]
 pub enum Tested {
     Holds,
     Fails,

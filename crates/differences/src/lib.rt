@@ -1,5 +1,6 @@
 // The table of differences under fixed outcomes: for each two points the largest difference of their times in any schedule, or that there is
 // no schedule. It says which step must come before which.
+#![tactic(auto)]
 mod passes;
 
 ghost use Rattle.std.specs.Prelude.{◌≡◌, cond, ◌&&◌, ◌%◌, ◌≤◌, ltb, get_or, replicate};
@@ -13,7 +14,7 @@ use constraints::limits;
 use plan::{Judged, Plan, Refusal};
 
 // A table, card 2's "none", or why the call is refused.
-#[derive(Drop)]
+#[derive(Clone, Copy)]
 pub enum Tabled {
     Table,
     Nothing,
@@ -21,13 +22,13 @@ pub enum Tabled {
 }
 
 // The row of X: for each Y the largest value of time of Y minus time of X, 16 bits in two's complement.
-#[derive(Drop)]
+#[derive(Clone, Copy)]
 pub struct Row {
     pub to: [u16; 8],
 }
 
 // A table of differences (card 2's term). Rows and columns of points that the plan lacks are zero, and all are beside "none" or a refusal.
-#[derive(Drop)]
+#[derive(Clone, Copy)]
 pub struct DifferenceTable {
     pub tabled: Tabled,
     pub rows: [Row; 8],

@@ -1,4 +1,5 @@
 // A crew's list of calls, made one after the other: the lists of demand 3 (crate `demands`) as running code.
+#![tactic(auto)]
 ghost use Rattle.std.specs.Prelude.{◌≡◌, ◌≤◌, ◌<◌};
 ghost use Rattle.following.specs.Calls.{begun, after_calls};
 ghost use Rattle.following.specs.ThisRun.{the_run};
@@ -9,14 +10,14 @@ use plan::{Judged, Plan};
 use run::{History, Instruction, Shown};
 
 // An instruction that was followed, and the report that was accepted there.
-#[derive(Drop)]
+#[derive(Clone, Copy)]
 pub struct Step {
     pub instruction: Instruction,
     pub report: u8,
 }
 
 // How far a crew has come: its history, how many steps it followed, and the steps in order, zeros behind them.
-#[derive(Drop)]
+#[derive(Clone, Copy)]
 pub struct Followed {
     pub history: History,
     pub count: u8,

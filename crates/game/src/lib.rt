@@ -1,4 +1,5 @@
 // The game in code: a position, the legal moves, what a move and its outcome lead to, what is kept so far.
+#![tactic(auto)]
 ghost use Rattle.std.specs.Prelude.{◌≡◌, ltb};
 ghost use Rattle.network.specs.Mask.{mask};
 ghost use Rattle.tree.specs.Parts.{move_of};
@@ -10,7 +11,7 @@ use tree::Node;
 
 // Where the game stands on a path: the first slot still open, the points not yet performed, the points performed on the path above (card 3's
 // running value), the letters set true, and the slot of each point that is performed.
-#[derive(Drop)]
+#[derive(Clone, Copy)]
 pub struct Position {
     pub earliest: u16,
     pub left: u8,

@@ -1,4 +1,5 @@
 // The plan record, its entries, its letters as masks, and the refusals.
+#![tactic(auto)]
 pub mod bytes;
 pub mod entries;
 pub mod letters;
@@ -8,7 +9,7 @@ ghost use Rattle.plan.specs.Plan.{zero_plan};
 ghost use Rattle.plan.specs.Refusal.{refusal_number};
 
 // A letter (document 01's term): its disclosing point, and its kind: 0 a condition, 1 a decision. A record can hold any other number.
-#[derive(Drop)]
+#[derive(Clone, Copy)]
 pub struct Letter {
     pub point: u8,
     pub kind: u8,
@@ -16,7 +17,7 @@ pub struct Letter {
 
 // Time of `to` minus time of `from` is at most `bound` (two's complement, as in its frame) where each letter of the mask `need` has the
 // value that the mask `truth` shows.
-#[derive(Drop)]
+#[derive(Clone, Copy)]
 pub struct Constraint {
     pub from: u8,
     pub to: u8,
@@ -26,7 +27,7 @@ pub struct Constraint {
 }
 
 // Four counts, the letters and the constraints; in a well-formed plan the entries past the counts are zero.
-#[derive(Drop)]
+#[derive(Clone, Copy)]
 pub struct Plan {
     pub horizon: u8,
     pub points: u8,
@@ -37,7 +38,7 @@ pub struct Plan {
 }
 
 // Why a call is refused: document 01, "Who gets which number". `refusal_number` of specs/Refusal.antt has the numbers.
-#[derive(Drop)]
+#[derive(Clone, Copy)]
 pub enum Refusal {
     // the author of a plan: its text, its head, its letters, its constraints
     PlanText,
@@ -58,7 +59,7 @@ pub enum Refusal {
 }
 
 // Whether something that was judged is fine, or why not.
-#[derive(Drop)]
+#[derive(Clone, Copy)]
 pub enum Judged {
     Fine,
     Refused(Refusal),

@@ -1,4 +1,5 @@
 // States of the game that are lost already, and slots before which no winning move performs a point: what the search leaves out.
+#![tactic(auto)]
 pub mod view;
 
 ghost use Rattle.std.specs.Prelude.{◌≡◌, true, false, ℕ, ◌≤◌, ◌<◌, get_or};
@@ -19,7 +20,7 @@ use plan::{Letter, Plan, letters};
 use tree::Node;
 
 // A plan but for its constraints: 16 bytes, where the whole record would be copied for each state.
-#[derive(Drop)]
+#[derive(Clone, Copy)]
 pub struct Outline {
     pub horizon: u8,
     pub points: u8,

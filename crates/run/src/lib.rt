@@ -1,4 +1,5 @@
 // The crew's run: what a crew is told at a history of reports, and its reports.
+#![tactic(auto)]
 mod walk;
 
 ghost use Rattle.std.specs.Prelude.{◌≡◌, ◌<◌};
@@ -10,7 +11,7 @@ ghost use Rattle.run.specs.Told.{shown_told, reported_answer};
 use plan::{Judged, Plan, Refusal, letters};
 
 // An instruction (document 01's term), what a crew does next: these points in this slot, with these choices.
-#[derive(Drop)]
+#[derive(Clone, Copy)]
 pub struct Instruction {
     pub slot: u8,
     pub points: u8,
@@ -18,14 +19,14 @@ pub struct Instruction {
 }
 
 // The reports so far: a count 0 to 8 and eight outcome masks, zeros past the count. A record can hold anything else; it is refused.
-#[derive(Drop)]
+#[derive(Clone, Copy)]
 pub struct History {
     pub count: u8,
     pub masks: [u8; 8],
 }
 
 // What showing (document 01's term) answers: an instruction, done, or a refusal.
-#[derive(Drop)]
+#[derive(Clone, Copy)]
 pub enum Shown {
     Instruct(Instruction),
     Done,
@@ -33,7 +34,7 @@ pub enum Shown {
 }
 
 // What reporting answers: fine, with the longer history, or a refusal, with the history that was given.
-#[derive(Drop)]
+#[derive(Clone, Copy)]
 pub struct Reported {
     pub answer: Judged,
     pub history: History,

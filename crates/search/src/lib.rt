@@ -1,4 +1,5 @@
 // The search: hopeless, or the tree of first moves.
+#![tactic(auto)]
 ghost use Rattle.std.specs.Prelude.{◌≡◌, ◌≤◌, length, replicate};
 ghost use Rattle.network.specs.Game.{start};
 ghost use Rattle.plan.specs.Plan.{network_of};
@@ -11,7 +12,7 @@ use plan::{Judged, Plan, Refusal};
 use turns::Turn;
 
 // What the search answers: so many nodes, or a refusal.
-#[derive(Drop)]
+#[derive(Clone, Copy)]
 pub enum Searched {
     Nodes(u8),
     Refused(Refusal),

@@ -1,5 +1,6 @@
 // The table of least slots: for every setting of the letters that a state leaves open, and every point, a slot before which no win performs
 // the point in that setting.
+#![tactic(auto)]
 mod cells;
 mod probing;
 mod rounds;
@@ -12,7 +13,7 @@ ghost use Rattle.table.specs.Table.{Win, Below, Tighter, Lost, Soonest};
 const ALL_SCENARIOS: u64 = 18446744073709551615;
 
 // What the table needs to know of a state.
-#[derive(Drop)]
+#[derive(Clone, Copy)]
 pub struct View {
     // how many constraints and points there are
     pub constraints: u8,

@@ -1,4 +1,5 @@
 // A tree in memory: its nodes as bytes, three to a node.
+#![tactic(auto)]
 ghost use Rattle.std.specs.Prelude.{◌≡◌, ◌*◌};
 ghost use Rattle.plan.specs.Faults.{put_at};
 ghost use Rattle.tree.specs.Nodes.{legal_length, node_count};
@@ -7,7 +8,7 @@ ghost use Rattle.tree.specs.Parts.{node_bytes, node_at};
 use plan::bytes;
 
 // A node (document 01's term), what is done in a slot: the points performed and the choices made, as masks.
-#[derive(Drop)]
+#[derive(Clone, Copy)]
 pub struct Node {
     pub slot: u8,
     pub points: u8,

@@ -1,5 +1,6 @@
 // The two turns of the game: the agent tries moves, the world tries outcomes. They call each other until no point is left, and write the
 // tree of first moves on the way.
+#![tactic(auto)]
 ghost use Rattle.std.specs.Prelude.{◌*◌, ◌≤◌, length};
 ghost use Rattle.network.specs.Game.{Legal};
 ghost use Rattle.plan.specs.Plan.{network_of};
@@ -14,7 +15,7 @@ use plan::{Plan, letters};
 use tree::Node;
 
 // What a turn finds: the game cannot be won, or a tree of so many nodes, which it wrote.
-#[derive(Drop)]
+#[derive(Clone, Copy)]
 pub enum Turn {
     Lost,
     Won(usize),

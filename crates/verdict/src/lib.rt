@@ -1,4 +1,5 @@
 // The verdict under fixed outcomes: the least schedule of a plan where all letters are set, or that there is none.
+#![tactic(auto)]
 pub mod screen;
 
 ghost use Rattle.std.specs.Prelude.{◌≡◌, ◌≤◌, leb, replicate};
@@ -14,7 +15,7 @@ use constraints::{raising, rows};
 use plan::{Judged, Plan, Refusal};
 
 // The least schedule, document 01's "none", or why the call is refused.
-#[derive(Drop)]
+#[derive(Clone, Copy)]
 pub enum Found {
     Least,
     Nothing,
@@ -23,7 +24,7 @@ pub enum Found {
 
 // A verdict (document 01's term): what was found, and the slot of each point in the least schedule. Unused entries are zero, and all are
 // beside "none" or a refusal.
-#[derive(Drop)]
+#[derive(Clone, Copy)]
 pub struct Verdict {
     pub found: Found,
     pub slots: [u8; 8],

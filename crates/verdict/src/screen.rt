@@ -10,7 +10,7 @@ use constraints::rows;
 use plan::{Judged, Plan, Refusal};
 
 // Whether a plan passes the screen (document 01's term), or why the call is refused.
-#[derive(Drop)]
+#[derive(Clone, Copy)]
 pub enum Screened {
     Passed,
     Failed,
