@@ -2,7 +2,6 @@
 use mathlib.Core.Path.{◌≡◌, refl, ◌∙◌}
 use mathlib.Core.Bool.{Bool, true, false, not, ◌&&◌, ◌||◌}
 use Prim.Native.Nat.{ℕ}
-use borrow.Author.Rules.{rules}
 use lib.Dec.{ltb}
 use lib.Bits.{bit_or, or_lt}
 use Rattle.network.specs.Mask.{bit}
@@ -13,14 +12,7 @@ use Rattle.plan.specs.declared.Plan.{Plan}
 use Rattle.plan.specs.Plan.{network_of}
 use Rattle.plan.specs.Letters.{heard_by, known_by}
 use Rattle.plan.specs.Settled.{settled_by}
-use Rattle.plan.proofs.letters.known_of.Statement.{statement}
-use Rattle.plan.proofs.letters.known_of.Tie as tie
-
-disclosed-of-kind-requires : tie.Need-disclosed-of-kind-requires
-disclosed-of-kind-requires c κs = search rules
-
-disclosed-of-kind-requires-2 : tie.Need-disclosed-of-kind-requires-2
-disclosed-of-kind-requires-2 c κs = search rules
+use Rattle.plan.proofs.letters.known_of.Goals as goal
 
 either : (used chosen here : Bool) → (((used && not chosen) && here) || ((used && chosen) && here)) ≡ (used && here)
 either true true true = refl
@@ -38,9 +30,6 @@ joined p points =
     ∙ rw (bit_mask 6 (condition_at net points) l lt, bit_mask 6 (decision_at net points) l lt)
     (either (ltb l p.letters) (net.is_decision l) (bit points (net.disclosing l))))
 
-returns : tie.Need-returns
+pub returns : goal.returns
 returns c p few same =
-    rw (c.before.disclosed-of-kind.ensures p few same, c.disclosed-of-kind2.ensures p few same) (joined p c.before.before.args.points)
-
-pub known-of-spec : {M : Type 1} → statement M
-known-of-spec = tie.close (tie.spec disclosed-of-kind-requires disclosed-of-kind-requires-2 returns)
+    rw (c.disclosed_of_kind.ensures p few same, c.disclosed_of_kind-2.ensures p few same) (joined p c.args.points)
