@@ -1,5 +1,5 @@
 -- Laws of runs of frames. Only the checker need believe this file.
-use mathlib.Core.Path.{◌≡◌, refl, sym, ap, ◌∙◌}
+use mathlib.Core.Path.{◌≡◌, refl, sym, ap, subst, ◌∙◌}
 use mathlib.Core.Bool.{Bool, true, false}
 use mathlib.Core.List.{List, [], ◌∷◌, ◌++◌, append_assoc}
 use Prim.Native.Nat.{ℕ, zero, suc, ◌+◌, ◌-◌, ◌≤◌, ◌<◌}
@@ -168,7 +168,10 @@ module _ {A : Type 0} (read : A → ℕ → List ℕ → Answer A) (m : ℕ) (af
   run_split (suc n) k i a s =
       let z : suc n + k ≡ suc (n + k) = omega arith in
       let y : i + suc n ≡ i + 1 + n = omega arith in
-      rw (z, y) (ap (and_then (read a i s)) (λ j b. run_split n k (i + 1) b (drop (frame_length m) s) j))
+      let there : ℕ → Type 0 =
+          λ x. frames_from read m after (suc (n + k)) i a s ≡ frames_from read m (frames_from read m after k x) (suc n) i a s in
+      let here : there (i + 1 + n) = ap (and_then (read a i s)) (λ j b. run_split n k (i + 1) b (drop (frame_length m) s) j) in
+      rw z (subst there (sym y) here)
 
   -- A run stops at its first faulty frame, or goes on to what follows its frames. What each good frame keeps holds there.
   module _

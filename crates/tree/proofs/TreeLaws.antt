@@ -97,6 +97,8 @@ module _ (net : Network) where
   pub same_bytes : (t t' : Tree) → SameTree net t t' → tree_bytes net t ≡ tree_bytes net t'
   unfolding SameTree
   same_bytes done done same = refl
+  same_bytes done (node m' next') same = elim same [ ]
+  same_bytes (node m next) done same = elim same [ ]
   same_bytes (node m next) (node m' next') same =
       node_bytes_lem m next
       ∙ ap (λ (bs : List ℕ). node_bytes (node_of m) ++ bs)

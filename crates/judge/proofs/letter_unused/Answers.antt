@@ -1,0 +1,8 @@
+-- By computation. Only the checker need believe this file.
+use mathlib.Core.Path.{refl}
+use Rattle.judge.specs.Judge.{letter_unused}
+use Rattle.judge.proofs.letter_unused.Goals as goal
+
+pub returns : goal.returns
+unfolding letter_unused
+returns c = refl
