@@ -1,0 +1,13 @@
+-- By cases of the test. Only the checker need believe this file.
+use borrow.Author.Tests.{eq-eqb, ne_eqb}
+use Rattle.plan.specs.Faults.{unless}
+use Rattle.frame.specs.Texts.{at_end}
+use Rattle.plan_text.proofs.reading.read_end.Goals as goal
+
+pub returns-then-s-eq0 : goal.returns-then-s-eq0
+unfolding at_end unless
+returns-then-s-eq0 c = rw (eq-eqb _ _ c.if-s-eq0.true) c.answered_plan.ensures
+
+pub returns : goal.returns
+unfolding at_end unless
+returns c = rw (ne_eqb _ _ c.if-s-eq0.false) c.answered_plan-2.ensures

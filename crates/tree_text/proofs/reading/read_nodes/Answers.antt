@@ -1,0 +1,29 @@
+-- The head, and what is read behind it. Only the checker need believe this file.
+use mathlib.Core.Path.{refl, sym, ap, ◌∙◌}
+use Rattle.plan.proofs.SliceLaws.{rest_is}
+use Rattle.frame.proofs.ReadingLaws.{then_on, then_stop, read_long}
+use Rattle.tree_text.specs.TreeRead.{tree_read_answer}
+use Rattle.tree_text.specs.ReadTree.{read_tree_head, read_nodes}
+use Rattle.tree_text.proofs.reading.read_nodes.Goals as goal
+
+pub returns-in_default : goal.returns-in_default
+unfolding read_nodes
+returns-in_default c =
+    let s = c.args.text.now in
+    then_stop (read_tree_head s) _ c.in_default.field-0 c.read_head-head.ensures (ap (λ r. (tree_read_answer r).fault) c.in_default.is)
+
+pub slice_bounds-read_behind-count : goal.slice_bounds-read_behind-count
+unfolding read_tree_head
+slice_bounds-read_behind-count c =
+    let s = c.args.text.now in
+    read_long _ _ _ 4 2 s _ _ c.read_head-head.ensures (ap (λ r. (tree_read_answer r).fault) c.in-Nodes.is)
+
+pub slice_bounds-read_behind-start : goal.slice_bounds-read_behind-start
+slice_bounds-read_behind-start c = slice_bounds-read_behind-count c
+
+pub returns : goal.returns
+unfolding read_nodes
+returns c =
+    let s = c.args.text.now in
+    rw (rest_is 5 s) at c.read_behind.ensures
+    ∙ sym (then_on (read_tree_head s) _ (sym (ap tree_read_answer c.in-Nodes.is) ∙ c.read_head-head.ensures) refl)

@@ -1,0 +1,33 @@
+-- By the laws of what is answered and left in the buffer. Only the checker need believe this file.
+use mathlib.Core.Path.{sym, ap, ◌∙◌}
+use native.Mathlib.Omega.{arith}
+use Rattle.tree_text.specs.TreeRead.{tree_read_answer}
+use Rattle.tree_text.proofs.CodeLaws.{read_short, read_refused, read_room, read_done}
+use Rattle.tree_text.proofs.reading.read_tree.Goals as goal
+
+pub returns-then-out-lt573 : goal.returns-then-out-lt573
+returns-then-out-lt573 c =
+    let a = c.args in
+    let e = read_short a.text.now a.out.now c.if-out-lt573.true in
+    record { answer = e.0; buffer = e.1 }
+
+pub returns-in_default : goal.returns-in_default
+returns-in_default c =
+    let a = c.args in
+    let e = sym (ap tree_read_answer c.in_default.is) ∙ c.read_nodes-read.ensures in
+    let f = read_refused a.text.now a.out.now c.if-out-lt573.false c.in_default.field-0 e in
+    record { answer = rw c.in_default.is f.0; buffer = f.1 }
+
+pub put_nodes-requires : goal.put_nodes-requires
+put_nodes-requires c =
+    let a = c.args in
+    let e = sym (ap tree_read_answer c.in-Nodes.is) ∙ c.read_nodes-read.ensures in
+    let room = read_room a.text.now a.out.now c.in-Nodes.n e in
+    record { count_in_bounds = room.0; count_in_bounds_2 = omega (arith, room.1, c.if-out-lt573.false) }
+
+pub returns : goal.returns
+returns c =
+    let a = c.args in
+    let e = sym (ap tree_read_answer c.in-Nodes.is) ∙ c.read_nodes-read.ensures in
+    let d = read_done a.text.now a.out.now c.in-Nodes.n e c.if-out-lt573.false in
+    record { answer = d.0; buffer = c.put_nodes.ensures ∙ d.1 }
