@@ -2,7 +2,6 @@
 use mathlib.Core.Path.{◌≡◌, ap, ◌∙◌}
 use mathlib.Core.List.{List}
 use Prim.Native.Nat.{ℕ}
-use borrow.Author.Rules.{rules}
 use Rattle.network.specs.Mask.{bit}
 use Rattle.network.specs.Network.{slots_in}
 use Rattle.network.specs.SoFar.{all_kept_so_far, keeps_so_far}
@@ -13,14 +12,7 @@ use Rattle.constraints.specs.Rows.{rows_say}
 use Rattle.game.specs.declared.Position.{Position}
 use Rattle.game.specs.Position.{keeps_so_far_in}
 use Rattle.pruning.specs.declared.Outline.{Outline}
-use Rattle.pruning.proofs.kept_so_far_by.Statement.{statement}
-use Rattle.pruning.proofs.kept_so_far_by.Tie as tie
-
-known-of-requires : tie.Need-known-of-requires
-known-of-requires c κs = search rules
-
-rows-kept-so-far-requires : tie.Need-rows-kept-so-far-requires
-rows-kept-so-far-requires c κs = search rules
+use Rattle.pruning.proofs.kept_so_far_by.Goals as goal
 
 -- what is called, of the plan
 says : (p : Plan) (at : Position) (rows : List ℕ) → rows_say p.constraints rows ≡ (network_of p).constraints →
@@ -29,13 +21,10 @@ says : (p : Plan) (at : Position) (rows : List ℕ) → rows_say p.constraints r
 unfolding keeps_so_far
 says p at rows say = ap (all_kept_so_far (known_by p at.performed) at.performed (slots_in at.slots) (bit at.values)) say
 
-returns : tie.Need-returns
+pub returns : goal.returns
 returns c p same say =
-    let a = c.before.before.before.before.args in
+    let a = c.args in
     let letters : p.letters ≡ a.o.letters = ap (λ (o : Outline). o.letters) same in
     let entries : p.letter ≡ a.o.letter = ap (λ (o : Outline). o.letter) same in
     let count : p.constraints ≡ a.o.constraints = ap (λ (o : Outline). o.constraints) same in
-    c.rows-kept-so-far.ensures ∙ rw (c.before.Known-of.ensures p letters entries, ← count) (says p a.at a.rows.now say)
-
-pub kept-so-far-by-spec : {M : Type 1} → statement M
-kept-so-far-by-spec = tie.close (tie.spec known-of-requires rows-kept-so-far-requires returns)
+    c.rows_kept_so_far.ensures ∙ rw (c.known_of-known.ensures p letters entries, ← count) (says p a.at a.rows.now say)
