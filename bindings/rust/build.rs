@@ -8,7 +8,7 @@ fn main() {
     let root = package.ancestors().nth(2).expect("the package stands two levels below the root");
     // A relative folder is taken from the root, as in tests/c_library.
     let named = env::var_os("TUREENLARK_LIBRARY").filter(|folder| !folder.is_empty());
-    let folder = root.join(named.unwrap_or("target/staticlib".into()));
+    let folder = root.join(named.unwrap_or("crates/tureenlark/out".into()));
     let archive = folder.join("libtureenlark.a");
     println!("cargo::rerun-if-env-changed=TUREENLARK_LIBRARY");
     println!("cargo::rerun-if-changed={}", archive.display());
@@ -16,7 +16,7 @@ fn main() {
         println!("cargo::rustc-link-search=native={}", folder.display());
         println!("cargo::rustc-link-lib=static=tureenlark");
     } else {
-        let builder = "`rt staticlib tureenlark` at the repository's root builds it";
+        let builder = "`rt lib` in crates/tureenlark builds it";
         println!("cargo::error=there is no {}: {builder}", archive.display());
     }
 }

@@ -49,10 +49,10 @@ pub const STATEMENTS: [Statement; 9] = [
         title: "How further answers of the code are read",
         word: "the contracts",
         roots: &[
-            ("frame", "Written", "writtenAnswer"),
-            ("plan_text", "PlanRead", "planReadAnswer"),
-            ("tree_text", "TreeRead", "treeReadAnswer"),
-            ("following", "Following", "followedRecord"),
+            ("frame", "Written", "written_answer"),
+            ("plan_text", "PlanRead", "plan_read_answer"),
+            ("tree_text", "TreeRead", "tree_read_answer"),
+            ("following", "Following", "followed_record"),
             ("answer_text", "Holding", "holding"),
         ],
     },
@@ -70,7 +70,7 @@ pub const STATEMENTS: [Statement; 9] = [
         roots: &[
             ("network", "LabelTest", "LabelTest"),
             ("constraints", "Labels", "label"),
-            ("constraints", "Labels", "testedAs"),
+            ("constraints", "Labels", "tested_as"),
         ],
     },
     Statement {

@@ -1,22 +1,28 @@
 //! Whether a wrong program was refused for a reason of its own.
 
 use crate::edit::{Edit, Place, Reason};
-use crate::log::{errors, Error, File, Function, Kind, Said};
+use crate::log::{errors, Error, File, Function, Goal, Kind, Said};
 
 /// What refused the wrong program, in a few words; or why its refusal shows nothing.
 ///
 /// - An edit of functions alone: each of them is not proved, and the first error in its own proof is a fact that fails:
 ///   what the code does is not what its contract says. Loops' measures are passed over: they belong to the proof. Where
-///   the toolchain makes the proof by itself, it says which need it could not prove.
+///   nothing is wrong with the answers that its proof has, it is a goal that the prover's own search does not prove any
+///   more; and a goal at which the prover found values that make it false is a fact in any case.
 /// - Any other edit names what refuses it. `fact: NAME` is a case (a statement without variables, in a file of cases)
 ///   that computes otherwise with the edit. `fact: fn NAME` is a function that does not do what the wrong definition
 ///   says. `claim: NAME` is a law or theorem that is false with the edit; that it is, and not only proved otherwise, no
 ///   log can show, so `why:` says it.
+///
+/// Where a text of the code or of the definitions cannot be read, nothing was tried.
 pub fn judge(edit: &Edit, places: &[Place], log: &str) -> Result<String, String> {
     if !log.lines().any(|l| l.starts_with("logic=not-proved")) {
         return Err("it is not refused".to_string());
     }
     let errors = errors(log);
+    if let Some(e) = errors.iter().find(|e| e.is_unread()) {
+        return Err(format!("the edited text cannot be read: {}", short(e)));
+    }
     if !edit.reasons.is_empty() && !places.contains(&Place::Elsewhere) {
         return Err("it changes functions alone, and each of them is judged by its own proof".to_string());
     }
@@ -50,30 +56,40 @@ fn case(name: &str, errors: &[Error]) -> Result<String, String> {
 }
 
 fn statement(name: &str, errors: &[Error], taken: &[Kind]) -> Result<String, String> {
-    let first = errors.iter().find(|e| e.declaration == name);
-    let first = first.ok_or_else(|| format!("nothing is said against `{name}`"))?;
-    among(first, taken).map(|()| format!("`{name}`"))
+    match errors.iter().find(|e| e.declaration == name) {
+        Some(first) => among(first, taken).map(|()| format!("`{name}`")),
+        None => Err(match errors.iter().find(|e| e.passes_over(name)) {
+            Some(e) => format!("`{name}` only rests on something refused: {}", short(e)),
+            None => format!("nothing is said against `{name}`"),
+        }),
+    }
 }
 
 fn function(f: &Function, errors: &[Error], log: &str) -> Result<String, String> {
-    match f.said(log) {
-        Said::Proved => Err(format!("`{}` is still proved", f.name)),
-        Said::NotClosed(needs) if needs.is_empty() => Err(format!("only a measure of `{}` is not proved", f.name)),
-        Said::NotClosed(needs) => Ok(format!("{} of `{}`", needs.join(", "), f.name)),
-        Said::NotProved => {
-            let first = errors.iter().find(|e| f.owns(e) && !e.of_a_measure());
-            let first = first.ok_or_else(|| format!("no error stands in the proof of `{}`", f.name))?;
-            among(first, &[Kind::Fact, Kind::Differ]).map(|()| format!("`{}` of `{}`", first.declaration, f.name))
-        }
+    let Said::NotProved(goals) = f.said(log) else { return Err(format!("`{}` is still proved", f.name)) };
+    let facts: Vec<&Goal> = goals.iter().filter(|g| !g.of_a_measure()).collect();
+    if let Some(g) = facts.iter().find(|g| g.is_false) {
+        return Ok(format!("`{}` of `{}`, which is false", g.name, f.name));
+    }
+    if let Some(first) = errors.iter().find(|e| f.owns(e) && !e.of_a_measure()) {
+        return among(first, &[Kind::Fact, Kind::Differ]).map(|()| format!("`{}` of `{}`", first.declaration, f.name));
+    }
+    match facts.first() {
+        Some(g) => Ok(format!("`{}` of `{}`", g.name, f.name)),
+        None if goals.is_empty() => Err(format!("no error stands in the proof of `{}`", f.name)),
+        None => Err(format!("only a measure of `{}` is not proved", f.name)),
     }
 }
 
 fn among(error: &Error, taken: &[Kind]) -> Result<(), String> {
-    let said: String = error.text.chars().take(300).collect();
     match error.kind() {
         kind if taken.contains(&kind) => Ok(()),
-        Kind::NotAdmitted => Err(format!("`{}` only rests on something refused: {said}", error.declaration)),
-        Kind::Name => Err(format!("a name or a place is missing, no fact fails: {said}")),
-        _ => Err(format!("a proof no longer fits, no fact fails: {said}")),
+        Kind::NotAdmitted => Err(format!("`{}` only rests on something refused: {}", error.declaration, short(error))),
+        Kind::Name => Err(format!("a name or a place is missing, no fact fails: {}", short(error))),
+        _ => Err(format!("a proof no longer fits, no fact fails: {}", short(error))),
     }
+}
+
+fn short(error: &Error) -> String {
+    error.text.chars().take(300).collect()
 }

@@ -27,7 +27,7 @@ impl Error {
     pub fn kind(&self) -> Kind {
         let first = self.text.lines().next().unwrap_or("");
         let said = self.text.split_whitespace().collect::<Vec<_>>().join(" ");
-        if first.contains("was not admitted") {
+        if RESTS.iter().any(|r| first.contains(r)) {
             Kind::NotAdmitted
         } else if NAMES.iter().any(|n| first.contains(n)) {
             Kind::Name
@@ -40,18 +40,33 @@ impl Error {
         }
     }
 
-    /// Whether it says that a loop's measure does not fall: the need is called loop-less, with a number behind it from
-    /// the second loop on. With another measure the loop might end all the same.
+    /// Whether it says that a loop's measure does not fall. With another measure the loop might end all the same.
     pub fn of_a_measure(&self) -> bool {
         is_measure(&self.declaration)
     }
+
+    /// Whether it passes this declaration over, since what that rests on was refused.
+    pub fn passes_over(&self, declaration: &str) -> bool {
+        let names = self.text.split_once("was not checked: ").map_or("", |(_, names)| names);
+        names.split([',', ' ', '\n']).any(|n| n.trim_matches('`') == declaration)
+    }
+
+    /// Whether a text of the code or of the definitions cannot be read, so that no statement was tried.
+    pub fn is_unread(&self) -> bool {
+        let of_a_text = self.file.is_empty() || !self.file.starts_with("proofs/");
+        of_a_text && (self.declaration.is_empty() && self.kind() != Kind::NotAdmitted || self.kind() == Kind::Name)
+    }
 }
 
-fn is_measure(need: &str) -> bool {
-    need.trim_end_matches(|c: char| c.is_ascii_digit() || c == '-').ends_with("loop-less")
+/// A goal that a loop ends: loop-NAME-smaller, with the way to it behind it, and in a cycle the function before it.
+fn is_measure(goal: &str) -> bool {
+    goal.split('-').any(|word| word == "smaller")
 }
 
-/// The prover's words for an inequality that fails.
+/// The prover's words for what uses something that was refused before.
+const RESTS: [&str; 2] = ["was not admitted", "which was rejected, was not checked"];
+
+/// Its words for an inequality that fails.
 const BROKEN: &str = "does not follow from what it read";
 
 /// Its words for a statement that is not the one asked for.
@@ -66,15 +81,18 @@ const DIFFER: [&str; 7] = [
 ];
 
 /// The prover's and the compiler's words for a name, a place or a text that is not there or cannot be read.
-const NAMES: [&str; 8] = [
+const NAMES: [&str; 11] = [
     "not in scope",
     "can be named from here",
     "has no field",
-    "has no `Need",
+    "is no name",
+    "operand is missing",
+    "expected the end",
+    "cannot continue",
     "unexpected",
     "expected one of",
     "cannot find",
-    "error[E",
+    "error[",
 ];
 
 /// A proof by computing: both sides were to be the same, `but this has type A ≡ A`.
@@ -149,9 +167,36 @@ pub enum File {
 #[derive(Clone, Debug, PartialEq)]
 pub enum Said {
     Proved,
-    NotProved,
-    /// the toolchain makes its proof by itself, and could not prove these needs; measures of loops are left out
-    NotClosed(Vec<String>),
+    /// the goals that nothing proved; those that an answer was written for are told by errors
+    NotProved(Vec<Goal>),
+}
+
+/// A goal that the prover looked for a proof of and found none, and whether it found values at which the goal is false.
+#[derive(Clone, Debug, PartialEq)]
+pub struct Goal {
+    pub name: String,
+    pub is_false: bool,
+}
+
+impl Goal {
+    pub fn of_a_measure(&self) -> bool {
+        is_measure(&self.name)
+    }
+
+    /// `note: FILE: it is not proved that .. (`NAME`); ..`
+    fn noted(line: &str) -> Option<Goal> {
+        let said = line.strip_prefix("note: ")?.split_once(": it is not proved that ")?.1;
+        let (before, after) = said.split_once("`); ")?;
+        let name = before.rsplit_once("(`")?.1.to_string();
+        Some(Goal { name, is_false: after.contains("allow values at which this goal is false") })
+    }
+
+    /// Those of the line of a function: `.. `search` did not prove `NAME`, `NAME``.
+    fn listed(said: &str) -> Vec<Goal> {
+        let names = said.split_once("`search` did not prove ").map_or("", |(_, names)| names);
+        let names = names.split('`').skip(1).step_by(2).take_while(|n| !n.contains("::"));
+        names.map(|n| Goal { name: n.to_string(), is_false: false }).collect()
+    }
 }
 
 impl Function {
@@ -162,37 +207,42 @@ impl Function {
         Function { file, name: name.to_string() }
     }
 
-    /// Whether names from the crate's root down are this function's. A method stands below its type, and functions
-    /// that call each other have one proof, named after all of them.
-    fn is(&self, path: &[&str]) -> bool {
-        let Some((last, above)) = path.split_last() else { return false };
+    /// Whether these names above a function's lead from the crate's root to this one's file. A method stands below its
+    /// type.
+    fn is_here(&self, above: &[&str]) -> bool {
         let types = |names: &[&str]| names.iter().all(|t| t.starts_with(|c: char| c.is_ascii_uppercase()));
-        let here = match &self.file {
+        match &self.file {
             File::Root => types(above),
             File::Module(m) => above.split_first().is_some_and(|(first, rest)| first == m && types(rest)),
             File::Any => true,
-        };
-        here && (*last == self.name || last.starts_with('+') && last.split('+').any(|n| n == self.name))
+        }
     }
 
-    /// Whether an error stands in this function's own proof.
+    /// Whether an error stands in this function's own proof. A cycle has one proof, in which a goal begins with the name
+    /// of its function, unless the cycle is a single function's and is called like it.
     pub fn owns(&self, error: &Error) -> bool {
-        let inner = error.file.strip_prefix("proofs/").and_then(|f| f.strip_suffix("/Proof.antt"));
-        inner.is_some_and(|f| self.is(&f.split('/').collect::<Vec<_>>()))
+        let inner = error.file.strip_prefix("proofs/").and_then(|f| f.rsplit_once('/'));
+        let Some((folder, "Answers.antt" | "Invariants.antt" | "Proof.antt")) = inner else { return false };
+        let path: Vec<&str> = folder.split('/').collect();
+        let Some((last, above)) = path.split_last() else { return false };
+        let own = match last.strip_prefix('+') {
+            None => *last == self.name,
+            Some(cycle) => cycle == self.name || error.declaration.starts_with(&format!("{}-", self.name)),
+        };
+        own && self.is_here(above)
     }
 
     pub fn said(&self, log: &str) -> Said {
+        let mut noted = Vec::new();
         for line in log.lines() {
+            noted.extend(Goal::noted(line));
             let Some((head, said)) = line.strip_prefix("fn ").and_then(|l| l.split_once(": ")) else { continue };
-            if !self.is(&head.split("::").skip(1).collect::<Vec<_>>()) {
-                continue;
-            }
-            if let Some((_, needs)) = said.split_once("`search` does not close ") {
-                let names = needs.split('`').skip(1).step_by(2).take_while(|n| !n.contains("::"));
-                return Said::NotClosed(names.filter(|n| !is_measure(n)).map(|n| format!("`{n}`")).collect());
-            }
-            if said.starts_with("not proved") || said.starts_with("no proof") {
-                return Said::NotProved;
+            let mut goals = std::mem::take(&mut noted);
+            let path: Vec<&str> = head.split("::").skip(1).collect();
+            let own = path.split_last().is_some_and(|(last, above)| *last == self.name && self.is_here(above));
+            if own && (said.starts_with("not proved") || said.starts_with("no proof")) {
+                goals.extend(Goal::listed(said));
+                return Said::NotProved(goals);
             }
         }
         Said::Proved

@@ -1,7 +1,7 @@
-//! `gate try [--whole] [CRATE | CRATE/LABEL]..` tries the wrong programs that are named, of both folders, or all of
-//! crates/*/wrong, each by itself; `gate judge` reads the logs of those and of the must-fail edits that rt ci tried;
-//! `gate believed [--write | --headers | --write-headers]` compares or writes the page of what must be believed and the
-//! sentences at the ends of the headers. Run at the repository's root.
+//! `gate try [--whole] [CRATE | CRATE/LABEL]..` tries the wrong programs that are named, or all of crates/*/wrong and
+//! crates/*/must-fail, each by itself; `gate judge` reads the logs that it left; `gate believed [--write | --headers |
+//! --write-headers]` compares or writes the page of what must be believed and the sentences at the ends of the headers.
+//! Run at the repository's root.
 
 use gate::believed::{Believed, STATEMENTS};
 use gate::judge::judge;
@@ -31,27 +31,25 @@ fn main() -> ExitCode {
     }
 }
 
-/// The wrong programs of these folders, crate by crate.
-fn all(root: &Path, folders: &[Folder]) -> Result<Vec<Program>, String> {
+/// All wrong programs, crate by crate.
+fn all(root: &Path) -> Result<Vec<Program>, String> {
     let mut found = Vec::new();
     for krate in crates(root)? {
-        for folder in folders {
-            found.extend(programs(root, &krate, *folder)?);
+        for folder in [Folder::MustFail, Folder::Wrong] {
+            found.extend(programs(root, &krate, folder)?);
         }
     }
     Ok(found)
 }
 
-/// Those that these words name, in either folder; where there is no word, all that rt ci leaves to be tried.
+/// Those that these words name; where there is no word, all.
 fn named(root: &Path, words: &[String]) -> Result<Vec<Program>, String> {
-    if words.is_empty() {
-        return all(root, &[Folder::Wrong]);
-    }
-    let found = all(root, &[Folder::MustFail, Folder::Wrong])?;
-    if let Some(w) = words.iter().find(|w| !found.iter().any(|p| p.name() == **w || p.krate == **w)) {
+    let found = all(root)?;
+    let is = |p: &Program, word: &String| p.name() == *word || p.krate == *word;
+    if let Some(w) = words.iter().find(|w| !found.iter().any(|p| is(p, w))) {
         return Err(format!("no wrong program is called {w}"));
     }
-    Ok(found.into_iter().filter(|p| words.iter().any(|w| p.name() == *w || p.krate == *w)).collect())
+    Ok(found.into_iter().filter(|p| words.is_empty() || words.iter().any(|w| is(p, w))).collect())
 }
 
 /// Tries wrong programs and prints what refused each. How many were not refused for a fact of their own.
@@ -66,26 +64,31 @@ fn try_programs(words: &[String]) -> Result<usize, String> {
         return Err("there is no wrong program".to_string());
     }
     let crates = crates(&root)?;
-    let concerned: Vec<String> = crates.iter().filter(|c| found.iter().any(|p| p.krate == **c)).cloned().collect();
-    let check = Command::new("rt").arg("check").args(&concerned).output().map_err(|e| format!("rt: {e}"))?;
-    if !check.status.success() {
-        return Err(format!("not all is proved:\n{}", String::from_utf8_lossy(&check.stdout)));
+    if names.is_empty() {
+        prove(&root, &["all", "check"])?;
+    }
+    for krate in crates.iter().filter(|c| !names.is_empty() && found.iter().any(|p| p.krate == **c)) {
+        prove(&root.join("crates").join(krate), &["check"])?;
     }
     let work = Work::new()?;
     let jobs = std::env::var("RT_JOBS").ok().and_then(|j| j.parse().ok());
-    let jobs = jobs.or(std::thread::available_parallelism().ok().map(|n| n.get())).unwrap_or(1);
-    let trials = Trials {
-        root: &root,
-        work: work.folder(),
-        crates: &crates,
-        jobs,
-        whole: options.iter().any(|o| o == "--whole"),
-    };
-    trials.keep_proofs(&concerned)?;
+    let jobs = jobs.or(std::thread::available_parallelism().ok().map(|n| n.get())).unwrap_or(1).max(1);
+    let whole = options.iter().any(|o| o == "--whole");
+    let trials = Trials { root: &root, work: work.folder(), crates: &crates, jobs, whole };
+    trials.lay()?;
     let outcomes = trials.run(&found, &say);
     let failed = outcomes.iter().filter(|o| o.said.is_err()).count();
     println!("{} passed, {failed} failed", outcomes.len() - failed);
     Ok(failed)
+}
+
+/// Proves the crates in this folder as they are; what is proved stays there.
+fn prove(folder: &Path, words: &[&str]) -> Result<(), String> {
+    let check = Command::new("rt").args(words).current_dir(folder).output().map_err(|e| format!("rt: {e}"))?;
+    match check.status.success() {
+        true => Ok(()),
+        false => Err(format!("not all is proved:\n{}", String::from_utf8_lossy(&check.stdout))),
+    }
 }
 
 fn say(p: &Program, o: &Outcome) {
@@ -99,21 +102,24 @@ fn say(p: &Program, o: &Outcome) {
 /// Judges every log anew. How many wrong programs show nothing, or were not tried since they were written.
 fn judge_all() -> Result<usize, String> {
     let root = std::env::current_dir().map_err(|e| e.to_string())?;
-    let programs = all(&root, &[Folder::MustFail, Folder::Wrong])?;
+    let programs = all(&root)?;
     let mut faults = 0;
     for p in &programs {
-        let said = if tried(p, &root) {
-            judge(&p.edit, &p.places, &read(&p.log(&root))?)
-        } else {
-            Err("it was not tried since it was written".to_string())
-        };
-        if let Err(why) = said {
+        if let Err(why) = judged(p, &root) {
             println!("{}: {why}", p.name());
             faults += 1;
         }
     }
     println!("{} wrong programs judged, {faults} faults", programs.len());
     Ok(faults)
+}
+
+fn judged(p: &Program, root: &Path) -> Result<String, String> {
+    let (edit, places) = p.edit.as_ref().map_err(|e| format!("BAD EDIT: {e}"))?;
+    if !tried(p, root) {
+        return Err("it was not tried since it was written".to_string());
+    }
+    judge(edit, places, &read(&p.log(root))?)
 }
 
 /// Compares what must be believed with the page and the headers, or writes them. How many faults there are.
@@ -147,10 +153,11 @@ fn tried(p: &Program, root: &Path) -> bool {
 struct Work(std::path::PathBuf);
 
 impl Work {
+    /// The first that is free: rt remembers a folder in which it kept proofs, and is not to remember ever more of them.
     fn new() -> Result<Work, String> {
-        let folder = std::env::temp_dir().join(format!("gate.{}", std::process::id()));
-        std::fs::create_dir(&folder).map_err(|e| format!("{}: {e}", folder.display()))?;
-        Ok(Work(folder))
+        let folders = (0..100).map(|n| std::env::temp_dir().join(format!("gate.{n}")));
+        let free = folders.into_iter().find(|folder| std::fs::create_dir(folder).is_ok());
+        free.map(Work).ok_or(format!("{} takes no new folder", std::env::temp_dir().display()))
     }
 
     fn folder(&self) -> &Path {

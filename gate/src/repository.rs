@@ -1,5 +1,4 @@
-//! Where the wrong programs of a repository stand: `must-fail` has those that rt ci tries by a whole check each,
-//! `wrong` the others.
+//! Where the wrong programs of a repository stand: `must-fail` has those that rt ci tries too, `wrong` the others.
 
 use crate::edit::{Edit, Place};
 use std::fs;
@@ -26,8 +25,8 @@ pub struct Program {
     pub label: String,
     pub folder: Folder,
     pub file: PathBuf,
-    pub edit: Edit,
-    pub places: Vec<Place>,
+    /// the edit and the places that it changes, or why it cannot be read or applied
+    pub edit: Result<(Edit, Vec<Place>), String>,
 }
 
 impl Program {
@@ -37,18 +36,19 @@ impl Program {
 
     /// What the prover said of it when it was last tried.
     pub fn log(&self, root: &Path) -> PathBuf {
-        root.join("target").join(self.folder.name()).join(&self.krate).join(&self.label).join(".log")
+        root.join("target/wrong").join(&self.krate).join(format!("{}.log", self.label))
     }
 }
 
-/// The crates that crates.txt lists, in its order.
+/// The crates that crates.txt lists, in its order. The words behind a name, as `staticlib`, are no part of it.
 pub fn crates(root: &Path) -> Result<Vec<String>, String> {
     let text = read(&root.join("crates.txt"))?;
     let lines = text.lines().map(|l| l.split('#').next().unwrap_or(""));
-    Ok(lines.filter_map(|l| l.split_once(':')).map(|(name, _)| name.trim().to_string()).collect())
+    let names = lines.filter_map(|l| l.split_once(':')).filter_map(|(head, _)| head.split_whitespace().next());
+    Ok(names.map(str::to_string).collect())
 }
 
-/// The wrong programs of one of a crate's folders, by name. One that cannot be read or applied is an error.
+/// The wrong programs of one of a crate's folders, by name.
 pub fn programs(root: &Path, krate: &str, folder: Folder) -> Result<Vec<Program>, String> {
     let place = root.join("crates").join(krate);
     let Ok(entries) = fs::read_dir(place.join(folder.name())) else { return Ok(Vec::new()) };
@@ -60,13 +60,16 @@ pub fn programs(root: &Path, krate: &str, folder: Folder) -> Result<Vec<Program>
             return Err(format!("{} is no .edit file", file.display()));
         }
         let label = file.file_stem().map(|s| s.to_string_lossy().into_owned()).unwrap_or_default();
-        let said = |e: String| format!("{krate}/{label}: {e}");
-        let source = |f: &str| read(&place.join(f));
-        let edit = Edit::read(&read(&file)?).map_err(said)?;
-        let places = edit.apply(&source).map_err(said)?.places;
-        found.push(Program { krate: krate.to_string(), label, folder, file, edit, places });
+        let edit = read_edit(&place, &file);
+        found.push(Program { krate: krate.to_string(), label, folder, file, edit });
     }
     Ok(found)
+}
+
+fn read_edit(place: &Path, file: &Path) -> Result<(Edit, Vec<Place>), String> {
+    let edit = Edit::read(&read(file)?)?;
+    let places = edit.apply(&|f: &str| read(&place.join(f)))?.places;
+    Ok((edit, places))
 }
 
 pub fn read(file: &Path) -> Result<String, String> {

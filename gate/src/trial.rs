@@ -1,18 +1,23 @@
 //! Trying wrong programs, each by itself.
 //!
-//! A crate is first proved as it is, from nothing, by `rt dev`, which keeps the proof of each of its modules. A wrong
-//! program is then checked in a copy of the crate, beside a copy of those proofs: only what the edit reaches is checked
-//! anew. That the rest is proved is true of every such copy, since it is the same text; and a refusal comes from a
-//! module that was checked. `whole` leaves the kept proofs out.
+//! Every crate is first proved as it is, by `rt all check` in the repository, which keeps in each crate's `out` the proof
+//! of each of its modules. A wrong program is then checked in a copy of the repository, over a copy of those proofs: only
+//! what the edit reaches is checked anew. That the rest is proved is true of every such copy, since it is the same text;
+//! and a refusal comes from a module that was checked. `whole` leaves the crate's kept proofs out.
 
 use crate::judge::judge;
 use crate::repository::{read, Program};
 use std::fs;
-use std::os::unix::fs::symlink;
 use std::path::{Path, PathBuf};
 use std::process::{Command, Stdio};
 use std::sync::atomic::{AtomicUsize, Ordering};
 use std::time::{Duration, Instant};
+
+/// The parts of a crate that a check reads.
+const PARTS: [&str; 3] = ["src", "specs", "proofs"];
+/// What a check keeps, below a crate: its proofs, and the library that the crates above read.
+const PROOFS: &str = "out/incremental";
+const LIBRARY: &str = "out/rlib";
 
 pub struct Trials<'a> {
     /// the repository, all of whose crates are proved
@@ -31,85 +36,75 @@ pub struct Outcome {
 }
 
 impl Trials<'_> {
-    /// Proves each of these crates as it is, and keeps the proofs.
-    pub fn keep_proofs(&self, crates: &[String]) -> Result<(), String> {
-        if self.whole {
-            return Ok(());
-        }
-        let proved = side_by_side(self.jobs, crates, &|krate: &String| {
-            let place = self.lay(krate, krate)?;
-            let log = self.check(&place, krate)?;
-            if !log.lines().any(|l| l.starts_with("logic=proved")) {
-                return Err(format!("{krate} itself is not proved:\n{log}"));
+    /// Lays a copy of the repository for each job: the crates' texts and libraries.
+    pub fn lay(&self) -> Result<(), String> {
+        (0..self.jobs).try_for_each(|job| {
+            let place = self.place(job);
+            let said = |e: std::io::Error| format!("{}: {e}", place.display());
+            for krate in self.crates {
+                let (from, to) = (self.root.join("crates").join(krate), place.join("crates").join(krate));
+                for part in PARTS.iter().chain([&LIBRARY]).filter(|part| from.join(part).is_dir()) {
+                    copy(&from.join(part), &to.join(part))?;
+                }
             }
-            fs::rename(place.join("target/inc").join(krate), self.kept(krate)).map_err(|e| e.to_string())?;
-            fs::remove_dir_all(&place).map_err(|e| e.to_string())
-        });
-        proved.into_iter().collect()
+            fs::copy(self.root.join("crates.txt"), place.join("crates.txt")).map(drop).map_err(said)
+        })
     }
 
     /// Tries each of these; `said` hears of each as soon as it is known.
     pub fn run(&self, programs: &[Program], said: &(dyn Fn(&Program, &Outcome) + Sync)) -> Vec<Outcome> {
-        side_by_side(self.jobs, programs, &|p: &Program| {
+        side_by_side(self.jobs, programs, &|job: usize, p: &Program| {
             let began = Instant::now();
-            let outcome = Outcome { said: self.one(p), took: began.elapsed() };
+            let outcome = Outcome { said: self.one(job, p), took: began.elapsed() };
             said(p, &outcome);
             outcome
         })
     }
 
-    fn one(&self, p: &Program) -> Result<String, String> {
-        let place = self.lay(&p.krate, &p.name())?;
-        let crate_folder = place.join("crates").join(&p.krate);
-        for (file, text) in p.edit.apply(&|f: &str| read(&crate_folder.join(f)))?.files {
-            fs::write(crate_folder.join(file), text).map_err(|e| e.to_string())?;
-        }
-        if !self.whole {
-            copy(&self.kept(&p.krate), &place.join("target/inc").join(&p.krate))?;
-        }
-        let log = self.check(&place, &p.krate)?;
+    fn one(&self, job: usize, p: &Program) -> Result<String, String> {
+        let (edit, places) = p.edit.as_ref().map_err(|e| format!("BAD EDIT: {e}"))?;
+        let from = self.root.join("crates").join(&p.krate);
+        let place = self.place(job).join("crates").join(&p.krate);
+        let files = edit.apply(&|f: &str| read(&from.join(f)))?.files;
+        put(&place, &files)?;
+        replace(&place.join(PROOFS), (!self.whole).then(|| from.join(PROOFS)))?;
+        let log = check(&place);
+        let was = files.iter().map(|(file, _)| Ok((file.clone(), read(&from.join(file))?)));
+        put(&place, &was.collect::<Result<Vec<_>, String>>()?)?;
+        replace(&place.join(PROOFS), None)?;
+        let log = log?;
         let file = p.log(self.root);
         fs::create_dir_all(file.parent().expect("a log stands in a folder")).map_err(|e| e.to_string())?;
         fs::write(&file, &log).map_err(|e| e.to_string())?;
-        fs::remove_dir_all(&place).map_err(|e| e.to_string())?;
-        judge(&p.edit, &p.places, &log)
+        judge(edit, places, &log)
     }
 
-    fn kept(&self, krate: &str) -> PathBuf {
-        self.work.join(format!("kept.{krate}"))
+    fn place(&self, job: usize) -> PathBuf {
+        self.work.join(job.to_string())
     }
+}
 
-    /// A repository in which this crate is a copy and all others are those of the root, with their proofs.
-    fn lay(&self, krate: &str, name: &str) -> Result<PathBuf, String> {
-        let place = self.work.join(name.replace('/', "."));
-        let said = |e: std::io::Error| format!("{}: {e}", place.display());
-        fs::create_dir_all(place.join("crates")).map_err(said)?;
-        fs::create_dir_all(place.join("target/inc")).map_err(said)?;
-        fs::copy(self.root.join("crates.txt"), place.join("crates.txt")).map_err(said)?;
-        for other in self.crates.iter().filter(|c| *c != krate) {
-            symlink(self.root.join("crates").join(other), place.join("crates").join(other)).map_err(said)?;
-        }
-        for part in ["src", "specs", "proofs"] {
-            let from = self.root.join("crates").join(krate).join(part);
-            if from.is_dir() {
-                copy(&from, &place.join("crates").join(krate).join(part))?;
-            }
-        }
-        symlink(self.root.join("target/rlib"), place.join("target/rlib")).map_err(said)?;
-        copy(&self.root.join("target/stamp"), &place.join("target/stamp"))?;
-        Ok(place)
+/// What the prover says of the crate in this folder, where it came to an end: status 0 is proved and 1 is refused.
+fn check(place: &Path) -> Result<String, String> {
+    let run = Command::new("rt").args(["check", "--jobs", "1"]).current_dir(place).stdin(Stdio::null()).output();
+    let output = run.map_err(|e| format!("rt: {e}"))?;
+    let log = String::from_utf8_lossy(&output.stdout).into_owned() + &String::from_utf8_lossy(&output.stderr);
+    match output.status.code() {
+        Some(0 | 1) => Ok(log),
+        status => Err(format!("rt ended with status {status:?}:\n{log}")),
     }
+}
 
-    /// What the prover says, where it came to an end: status 0 is proved and 1 is refused.
-    fn check(&self, place: &Path, krate: &str) -> Result<String, String> {
-        let run = Command::new("rt").args(["dev", krate]).current_dir(place).stdin(Stdio::null()).output();
-        let output = run.map_err(|e| format!("rt: {e}"))?;
-        let log = String::from_utf8_lossy(&output.stdout).into_owned() + &String::from_utf8_lossy(&output.stderr);
-        match output.status.code() {
-            Some(0 | 1) => Ok(log),
-            status => Err(format!("rt ended with status {status:?}:\n{log}")),
-        }
+fn put(place: &Path, files: &[(String, String)]) -> Result<(), String> {
+    files.iter().try_for_each(|(file, text)| fs::write(place.join(file), text).map_err(|e| format!("{file}: {e}")))
+}
+
+/// Removes a folder, and makes it anew as a copy of another where one is given.
+fn replace(folder: &Path, by: Option<PathBuf>) -> Result<(), String> {
+    if folder.is_dir() {
+        fs::remove_dir_all(folder).map_err(|e| format!("{}: {e}", folder.display()))?;
     }
+    by.map_or(Ok(()), |from| copy(&from, folder))
 }
 
 fn copy(from: &Path, to: &Path) -> Result<(), String> {
@@ -127,19 +122,20 @@ fn copy(from: &Path, to: &Path) -> Result<(), String> {
     Ok(())
 }
 
-/// What `work` makes of each item, in their order, so many at a time.
-fn side_by_side<T: Sync, R: Send>(jobs: usize, items: &[T], work: &(dyn Fn(&T) -> R + Sync)) -> Vec<R> {
+/// What `work` makes of each item, in their order, so many at a time; it hears the number of the job that does it.
+fn side_by_side<T: Sync, R: Send>(jobs: usize, items: &[T], work: &(dyn Fn(usize, &T) -> R + Sync)) -> Vec<R> {
     let next = AtomicUsize::new(0);
+    let one = |job: usize| {
+        let mut mine = Vec::new();
+        loop {
+            let at = next.fetch_add(1, Ordering::Relaxed);
+            let Some(item) = items.get(at) else { return mine };
+            mine.push((at, work(job, item)));
+        }
+    };
+    let one = &one;
     let mut done: Vec<(usize, R)> = std::thread::scope(|scope| {
-        let one = || {
-            let mut mine = Vec::new();
-            loop {
-                let at = next.fetch_add(1, Ordering::Relaxed);
-                let Some(item) = items.get(at) else { return mine };
-                mine.push((at, work(item)));
-            }
-        };
-        let threads: Vec<_> = (0..jobs.max(1)).map(|_| scope.spawn(one)).collect();
+        let threads: Vec<_> = (0..jobs).map(|job| scope.spawn(move || one(job))).collect();
         threads.into_iter().flat_map(|t| t.join().expect("a trial does not panic")).collect()
     });
     done.sort_by_key(|(at, _)| *at);

@@ -108,7 +108,7 @@ fn of_bindings(text: &str) -> Functions {
 
 /// A slice is passed as a pointer and then a length.
 fn of_proved(text: &str) -> Functions {
-    let found = functions(text, "#[no_mangle] pub extern \"C\" fn tureenlark_", " -> usize ", |argument| {
+    let found = functions(text, "#[unsafe(no_mangle)] pub extern \"C\" fn tureenlark_", " -> usize ", |argument| {
         let (name, kind) = argument.split_once(": ").expect("a type");
         let length = (format!("{name}_length"), Kind::Length);
         match kind {
@@ -213,7 +213,7 @@ fn differences_are_seen() {
     seen(&bindings, of_bindings, "mask: u8", "");
     seen(&bindings, constants_of_bindings, "AfterDone = 9", "AfterDone = 8");
     let proved =
-        "#[no_mangle]\npub extern \"C\" fn tureenlark_a(\n    plan: &[u8],\n    tree: &[u8],\n) -> usize\n    ensures";
+        "#[unsafe(no_mangle)]\npub extern \"C\" fn tureenlark_a(\n    plan: &[u8],\n    tree: &[u8],\n) -> usize\n    ensures";
     seen(proved, of_proved, "plan: &[u8],\n    tree: &[u8]", "tree: &[u8],\n    plan: &[u8]");
     seen(proved, of_proved, "tree: &[u8]", "tree: &mut [u8]");
     seen(proved, of_proved, "tree: &[u8]", "tree: u8");

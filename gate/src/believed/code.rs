@@ -3,7 +3,7 @@
 use crate::repository::read;
 use std::path::Path;
 
-/// A struct or enum, cut from its file with its comment.
+/// A struct or enum, cut from its file with its comment and without its attributes.
 #[derive(Clone, Debug, PartialEq)]
 pub struct Declared {
     pub krate: String,
@@ -28,7 +28,7 @@ pub fn declared(root: &Path, krate: &str, place: &[String]) -> Result<Declared, 
     let lines: Vec<&str> = text.lines().collect();
     let at = lines.iter().position(|l| declares(l) == Some(name.as_str()));
     let at = at.ok_or_else(|| format!("{krate}/{file} declares no {name}"))?;
-    let comments = lines[..at].iter().rev().take_while(|l| l.starts_with("//")).count();
+    let above = lines[..at].iter().rev().take_while(|l| l.starts_with("//") || l.starts_with("#[")).count();
     let end = at + lines[at..].iter().position(|l| *l == "}").map_or(1, |n| n + 1);
     let names = types(&lines[at..end]).into_iter().filter(|t| t != name);
     let names = names.map(|t| {
@@ -36,7 +36,8 @@ pub fn declared(root: &Path, krate: &str, place: &[String]) -> Result<Declared, 
         place.ok_or_else(|| format!("{krate}/{file}: {name} names {t}, which is not resolved"))
     });
     let names = names.collect::<Result<_, _>>()?;
-    let lines = lines[at - comments..end].iter().map(|l| l.to_string()).collect();
+    let shown = lines[at - above..end].iter().filter(|l| !l.starts_with("#["));
+    let lines = shown.map(|l| l.to_string()).collect();
     Ok(Declared { krate: krate.to_string(), file, name: name.clone(), lines, at, names })
 }
 
@@ -63,10 +64,22 @@ fn place_of(lines: &[&str], krate: &str, modules: &[String], name: &str) -> Opti
         let place = modules.iter().cloned().chain([name.to_string()]).collect();
         return Some((krate.to_string(), place));
     }
-    let used = lines.iter().filter_map(|l| l.strip_prefix("use ")).map(|l| l.trim_end_matches(';'));
-    let path = used.map(|u| u.split("::").map(str::to_string).collect::<Vec<_>>());
-    let path = path.into_iter().find(|p: &Vec<String>| p.last().is_some_and(|n| n == name))?;
+    let paths = used(lines);
+    let path = paths.iter().find(|path| path.last() == Some(&name))?;
     let (first, rest) = path.split_first()?;
-    let krate = if first == "crate" { krate.to_string() } else { first.clone() };
-    Some((krate, rest.to_vec()))
+    let krate = if *first == "crate" { krate } else { first };
+    Some((krate.to_string(), rest.iter().map(|r| r.to_string()).collect()))
+}
+
+/// The paths that the lines `use` name, `use a::{B, C};` being two of them.
+fn used<'a>(lines: &[&'a str]) -> Vec<Vec<&'a str>> {
+    let used = lines.iter().filter_map(|l| l.strip_prefix("use ")).map(|l| l.trim_end_matches(';'));
+    let split = |u: &'a str| match u.split_once("::{") {
+        Some((module, names)) => {
+            let names = names.trim_end_matches('}').split(',').map(str::trim);
+            names.map(|n| module.split("::").chain([n]).collect()).collect()
+        }
+        None => vec![u.split("::").collect::<Vec<_>>()],
+    };
+    used.flat_map(split).collect()
 }

@@ -66,7 +66,8 @@ impl Definitions {
         own.or_else(|| items().find(|(_, i)| i.members.iter().any(|m| m == name)).map(|(n, _)| target(n, true)))
     }
 
-    /// What a name means in a file: its own, one that it uses, or one of a module that it calls otherwise.
+    /// What a name means in a file: its own, one that it uses, or one of a module that it calls otherwise. With a dot behind
+    /// it a field of that may be named.
     pub fn resolve(&self, file: usize, name: &str) -> Result<Target, String> {
         let source = &self.sources[file];
         let said = || format!("{}: the name {name} is not resolved", source.path());
@@ -87,7 +88,10 @@ impl Definitions {
                 }
             }
         }
-        Err(said())
+        match name.split_once('.') {
+            Some((record, _)) => self.resolve(file, record).map_err(|_| said()),
+            None => Err(said()),
+        }
     }
 
     /// A declaration of the file itself, or a constructor: its fields are named only behind a dot.
@@ -99,20 +103,19 @@ impl Definitions {
         }
     }
 
-    /// A name of a module: `Rattle·CRATE.specs.MODULE`, `Rattle·CRATE·specs.specs.MODULE` inside the crate,
-    /// `.. .specs.declared.TYPE` for the code's types, anything else of the toolchain.
+    /// A name of a module: `Rattle.CRATE.specs.MODULE`, `.. .specs.declared.TYPE` for the code's types, anything else of the
+    /// toolchain.
     fn of_module(&self, module: &str, name: &str) -> Result<Target, String> {
         let library = || Target::Library { module: module.to_string(), name: name.to_string() };
-        let Some((krate, rest)) = module.strip_prefix("Rattle·").and_then(|m| m.split_once('.')) else {
+        let Some((krate, rest)) = module.strip_prefix("Rattle.").and_then(|m| m.split_once('.')) else {
             return Ok(library());
         };
-        let krate = krate.split('·').next().unwrap_or(krate);
         if !self.crates.iter().any(|c| c == krate) {
             return Ok(library());
         }
         let inner = rest.strip_prefix("specs.").ok_or_else(|| format!("{module} is no module of definitions"))?;
         if let Some(place) = inner.strip_prefix("declared.") {
-            let place = place.split('.').filter(|p| *p != "the-variants").map(str::to_string).collect();
+            let place = place.split('.').filter(|p| *p != "TheVariants").map(str::to_string).collect();
             return Ok(Target::Type { krate: krate.to_string(), place });
         }
         self.find(krate, inner, name)
@@ -128,9 +131,9 @@ impl Definitions {
     }
 }
 
-/// An operator is named with a line where each side goes, and written without.
+/// An operator is named with a ◌ where each side goes, and written without.
 fn means(declared: &str, written: &str) -> bool {
-    declared == written || (declared.contains('_') && declared.split('_').any(|part| part == written))
+    declared == written || (declared.contains('◌') && declared.split('◌').any(|part| part == written))
 }
 
 fn read_folder(krate: &str, folder: &Path) -> Result<Vec<Source>, String> {
@@ -153,7 +156,7 @@ fn read_folder(krate: &str, folder: &Path) -> Result<Vec<Source>, String> {
 
 /// As listed, but each file behind those of its crate that it uses.
 fn in_order(krate: &str, sources: Vec<Source>) -> Vec<Source> {
-    let inside = format!("Rattle·{krate}·specs.specs.");
+    let inside = format!("Rattle.{krate}.specs.");
     let mut waiting = sources;
     let mut done: BTreeSet<String> = BTreeSet::new();
     let mut ordered = Vec::new();

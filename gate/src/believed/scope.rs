@@ -122,7 +122,9 @@ fn free(words: &[String], known: &[String], found: &mut BTreeSet<String>) -> Vec
                 at += names.len();
                 known.extend(names);
             }
-            word if is_name(word) && !known.contains(&words[at]) => drop(found.insert(word.to_string())),
+            word if is_name(word) && !known.iter().any(|k| k == word || is_field(word, k)) => {
+                found.insert(word.to_string());
+            }
             _ => (),
         }
         at += 1;
@@ -138,6 +140,11 @@ fn binders(words: &[String]) -> Vec<String> {
     } else {
         Vec::new()
     }
+}
+
+/// Whether a word names a field of this variable.
+fn is_field(word: &str, variable: &str) -> bool {
+    word.strip_prefix(variable).is_some_and(|rest| rest.starts_with('.'))
 }
 
 /// How many words a label takes that stands before `=`.
