@@ -47,7 +47,7 @@ impl Error {
 
     /// Whether it passes this declaration over, since what that rests on was refused.
     pub fn passes_over(&self, declaration: &str) -> bool {
-        let names = self.text.split_once("was not checked: ").map_or("", |(_, names)| names);
+        let names = self.text.split_once(" not checked: ").map_or("", |(_, names)| names);
         names.split([',', ' ', '\n']).any(|n| n.trim_matches('`') == declaration)
     }
 
@@ -64,7 +64,7 @@ fn is_measure(goal: &str) -> bool {
 }
 
 /// The prover's words for what uses something that was refused before.
-const RESTS: [&str; 2] = ["was not admitted", "which was rejected, was not checked"];
+const RESTS: [&str; 2] = ["was not admitted", "which was rejected, w"];
 
 /// Its words for an inequality that fails.
 const BROKEN: &str = "does not follow from what it read";

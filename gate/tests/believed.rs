@@ -14,9 +14,9 @@ const LIST: &str = "-- Definitions: the modules of this folder, in the order in 
 
 const BASE: &str = "\
 -- Definitions: numbers. To be believed, for demand 1.
-use Prim.Native.Nat.{ℕ, _+_}
-use Rattle·one·specs.specs.declared.Colour.{Colour}
-use Rattle·one·specs.specs.declared.Colour.the-variants as colour
+use Rattle.std.specs.Prelude.{ℕ, ◌+◌}
+use Rattle.one.specs.declared.Colour.{Colour}
+use Rattle.one.specs.declared.Colour.TheVariants as colour
 
 -- ---- two numbers
 
@@ -38,13 +38,13 @@ worth (colour.Shade s) = 2
 module _ (p : Pair) where
   -- both together
   unfoldable pub sum : Sign → ℕ
-  sum plus = p .left + p .right
+  sum plus = p.left + p.right
   sum (minus n) = n
 ";
 
 const INNER: &str = "\
 -- Definitions: for proofs. Not to be believed: only theorems and inner contracts use it.
-use Prim.Native.Nat.{ℕ}
+use Rattle.std.specs.Prelude.{ℕ}
 
 abbrev pub inner : ℕ
 inner = 7
@@ -52,35 +52,39 @@ inner = 7
 
 const REST: &str = "\
 -- Definitions: the rest. To be believed, for the rest only.
-use Prim.Native.Nat.{ℕ}
-use Rattle·one·specs.specs.Base as base
+use Rattle.std.specs.Prelude.{ℕ}
+use Rattle.one.specs.Base as base
 
 abbrev pub rest : base.Pair → ℕ
-rest inner = inner .left
+rest inner = inner.left
 ";
 
 const CLAIM: &str = "\
 -- The claim. To be believed, for demand 1.
-use mathlib.Core.Path.{_≡_}
-use Prim.Native.Nat.{ℕ}
-use Rattle·one.specs.declared.Colour.{Colour}
-use Rattle·one.specs.Base.{Pair, Sign, minus, sum as total, worth}
+use Rattle.std.specs.Prelude.{ℕ, ◌≡◌}
+use Rattle.one.specs.declared.Colour.{Colour}
+use Rattle.one.specs.Base.{Pair, Sign, minus, sum as total, worth}
 
 pub record Claim : Type 0 where
   pub sums : (p : Pair) (n : ℕ) → total p (minus n) ≡ (λ Sign. Sign) n
-  pub worth-less : (c : Colour) → worth c ≡ 0
+  pub worth_less : (c : Colour) → worth c ≡ 0
 ";
 
 const CODE: &str = "\
 // Code.
 
+use two::{Hue, Tone};
+
 // A shade (not shown before what names it).
+#[derive(Clone, Copy)]
 pub struct Shade {
     pub depth: u8,
 }
 
 // A colour.
+#[derive(Clone, Copy)]
 pub enum Colour {
+    Mixed(Tone),
     Red,
     Shade(Shade),
 }
@@ -107,6 +111,7 @@ impl Planted {
         planted.put("crates/one/src/lib.rt", CODE);
         planted.put("crates/two/specs/Lib.antt", &format!("{LIST}pub mod Claim\n"));
         planted.put("crates/two/specs/Claim.antt", CLAIM);
+        planted.put("crates/two/src/lib.rt", "pub struct Tone {\n    pub high: u8,\n}\n");
         planted.put(PAGE, "");
         planted.read(|b| b.write().expect("the page can be written"));
         planted
@@ -164,7 +169,7 @@ fn definitions_stand_before_their_users_with_their_comments() {
         "## Demand 1",
         "-- == one/src/lib.rt",
         "// A shade (not shown before what names it).\npub struct Shade { pub depth: u8 }\n",
-        "// A colour.\npub enum Colour { Red, Shade(Shade) }\n",
+        "// A colour.\npub enum Colour { Mixed(Tone), Red, Shade(Shade) }\n",
         "-- ---- two numbers  == one/specs/Base.antt\n-- a pair\npub record Pair : Type 0 where\n",
         "  -- the other one\n  pub right : ℕ\n",
         "pub data Sign",
@@ -173,8 +178,7 @@ fn definitions_stand_before_their_users_with_their_comments() {
         "-- == two/specs/Claim.antt\npub record Claim",
         "## The rest",
         "abbrev pub rest",
-        "- `Prim.Native.Nat`: `_+_`, `ℕ`",
-        "- `mathlib.Core.Path`: `_≡_`",
+        "- `Rattle.std.specs.Prelude`: `ℕ`, `◌+◌`, `◌≡◌`",
     ];
     assert!(order.windows(2).all(|w| at(w[0]) < at(w[1])), "{page}");
     assert_eq!(page.matches("pub record Pair").count(), 1);
@@ -185,7 +189,7 @@ fn definitions_stand_before_their_users_with_their_comments() {
 fn the_top_counts_the_lines() {
     let planted = Planted::new();
     let (page, calls) = (planted.text(PAGE), planted.text(CALLS));
-    assert!(page.contains("\n| Demand 1 | 25 | 25 |\n| all | 25 | |\n"), "{page}");
+    assert!(page.contains("\n| Demand 1 | 26 | 26 |\n| all | 26 | |\n"), "{page}");
     assert!(calls.contains("\n| The rest | 2 | 8 |\n| all | 2 | |\n"), "{calls}");
 }
 
@@ -196,10 +200,10 @@ fn a_variable_is_no_definition() {
     planted.edit(
         "crates/one/specs/Rest.antt",
         "Base as base\n",
-        "Base as base\nuse Rattle·one·specs.specs.Inner.{inner}\n",
+        "Base as base\nuse Rattle.one.specs.Inner.{inner}\n",
     );
     assert_eq!(planted.faults(), Vec::<String>::new());
-    planted.edit("crates/one/specs/Rest.antt", "rest inner = inner .left", "rest p = inner");
+    planted.edit("crates/one/specs/Rest.antt", "rest inner = inner.left", "rest p = inner");
     planted.only_fault("one/specs/Inner.antt: its header has to end: To be believed, for the rest only.");
 }
 
@@ -231,9 +235,9 @@ fn a_type_that_the_code_does_not_declare() {
 #[test]
 fn a_definition_that_rests_on_a_proof() {
     let planted = Planted::new();
-    planted.edit("crates/two/specs/Claim.antt", "Rattle·one.specs.Base.{", "Rattle·one.proofs.Base.{");
+    planted.edit("crates/two/specs/Claim.antt", "Rattle.one.specs.Base.{", "Rattle.one.proofs.Base.{");
     let faults = planted.faults();
-    assert!(faults.iter().any(|f| f.contains("Rattle·one.proofs.Base is no module of definitions")), "{faults:?}");
+    assert!(faults.iter().any(|f| f.contains("Rattle.one.proofs.Base is no module of definitions")), "{faults:?}");
 }
 
 #[test]
