@@ -16,7 +16,7 @@ same_part : (c : After-read_plan-read) → take c.if-input-lt1026.judged c.args.
 same_part c =
     let s = c.args.input.now in
     elim c.if-input-lt1026.branch [
-        then-input-lt1026 w ↦ ap (λ (k : ℕ). take k s) w.judged-is ∙ all_judged s (omega arith)
+      | then-input-lt1026 w ↦ ap (λ (k : ℕ). take k s) w.judged-is ∙ all_judged s (omega arith)
       | else-input-lt1026 w ↦ ap (λ (k : ℕ). take k s) w.judged-is
     ]
 
