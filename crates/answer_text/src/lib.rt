@@ -1,5 +1,6 @@
 // What the program prints for its input: the tree text, or one 7F frame.
 #![tactic(auto)]
+
 ghost use Rattle.std.specs.Prelude.{◌≡◌, true, length, replicate};
 ghost use Rattle.frame.specs.Texts.{refusal_text};
 ghost use Rattle.tree.specs.Nodes.{legal_length};

@@ -1,6 +1,7 @@
 // Makes the calls of case files, one file for each argument: docs/CASES.md has their language. A line that breaks it does no harm: an
 // unknown command prints `?`, and where two digits are missing or wrong they say the byte 0.
 #![tactic(auto)]
+
 mod hex_bytes;
 mod lines;
 mod printing;

@@ -1,5 +1,6 @@
 // The checker of trees: yes, 6 or 7.
 #![tactic(auto)]
+
 ghost use Rattle.std.specs.Prelude.{◌≡◌};
 ghost use Rattle.plan.specs.Refusal.{judged_number};
 ghost use Rattle.plan.specs.WellFormed.{WellFormed};

@@ -1,5 +1,6 @@
 // The label test, what it is to keep a constraint, the raise, and limits of differences. What a constraint asks is known to this crate alone.
 #![tactic(auto)]
+
 pub mod labels;
 pub mod limits;
 pub mod raising;

@@ -51,6 +51,7 @@ one_of (m ∷ ms) k t e = by_test (eqb k m) (λ y. inl (e ∙ eqb_is k m y)) (λ
 pub one_of_more : (ks ms : List ℕ) (n : ℕ) → all_among ks ms ≡ true → OneOf ms n → OneOf ks n
 unfolding OneOf
 one_of_more ks (m ∷ ms) n t (inl e) = one_of ks m (and_left (among ks m) (all_among ks ms) t) e
+one_of_more ks [] n t x'' = elim x'' [ ]
 one_of_more ks (m ∷ ms) n t (inr h) = one_of_more ks ms n (and_right (among ks m) (all_among ks ms) t) h
 
 -- k numbers from m on

@@ -1,6 +1,7 @@
 // The table of differences under fixed outcomes: for each two points the largest difference of their times in any schedule, or that there is
 // no schedule. It says which step must come before which.
 #![tactic(auto)]
+
 mod passes;
 
 ghost use Rattle.std.specs.Prelude.{◌≡◌, cond, ◌&&◌, ◌%◌, ◌≤◌, ltb, get_or, replicate};

@@ -1,5 +1,6 @@
 // A crew's list of calls, made one after the other: the lists of demand 3 (crate `demands`) as running code.
 #![tactic(auto)]
+
 ghost use Rattle.std.specs.Prelude.{◌≡◌, ◌≤◌, ◌<◌};
 ghost use Rattle.following.specs.Calls.{begun, after_calls};
 ghost use Rattle.following.specs.ThisRun.{the_run};

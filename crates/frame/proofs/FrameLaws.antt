@@ -97,13 +97,13 @@ is_whole : (kind n : ℕ) (s : List ℕ) → whole kind n s ≡ true → IsWhole
 unfolding whole
 is_whole kind n s e =
     let bytes_ok = all_below n (λ k. ltb (byte_at s k) 256) in
-    let feed-ok = eqb (get_or s (2 * n) 0) 10 in
-    let Kind-ok = eqb (byte_at s 0) kind in
-    let front = and_left (Kind-ok && bytes_ok) feed-ok e in
+    let feed_ok = eqb (get_or s (2 * n) 0) 10 in
+    let kind_ok = eqb (byte_at s 0) kind in
+    let front = and_left (kind_ok && bytes_ok) feed_ok e in
     record {
-      kind_first = eqb_is _ _ (and_left Kind-ok bytes_ok front);
-      bytes = λ k lt. ltb_is _ _ (all_at n _ (and_right Kind-ok bytes_ok front) k lt);
-      feed = eqb_is _ _ (and_right (Kind-ok && bytes_ok) feed-ok e);
+      kind_first = eqb_is _ _ (and_left kind_ok bytes_ok front);
+      bytes = λ k lt. ltb_is _ _ (all_at n _ (and_right kind_ok bytes_ok front) k lt);
+      feed = eqb_is _ _ (and_right (kind_ok && bytes_ok) feed_ok e);
     }
 
 pub whole_kind : (kind n : ℕ) (s : List ℕ) → kind < 256 → whole kind n s ≡ true → value_at s 0 ≡ kind

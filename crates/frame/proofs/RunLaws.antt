@@ -169,7 +169,7 @@ module _ {A : Type 0} (read : A → ℕ → List ℕ → Answer A) (m : ℕ) (af
       let z : suc n + k ≡ suc (n + k) = omega arith in
       let y : i + suc n ≡ i + 1 + n = omega arith in
       let there : ℕ → Type 0 =
-          λ x. frames_from read m after (suc (n + k)) i a s ≡ frames_from read m (frames_from read m after k x) (suc n) i a s in
+      λ x. frames_from read m after (suc (n + k)) i a s ≡ frames_from read m (frames_from read m after k x) (suc n) i a s in
       let here : there (i + 1 + n) = ap (and_then (read a i s)) (λ j b. run_split n k (i + 1) b (drop (frame_length m) s) j) in
       rw z (subst there (sym y) here)
 

@@ -1,5 +1,6 @@
 // Frames: hexadecimal digits, one frame read and written, the frame of a refusal.
 #![tactic(auto)]
+
 pub mod hex;
 pub mod reading;
 pub mod writing;

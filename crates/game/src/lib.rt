@@ -1,5 +1,6 @@
 // The game in code: a position, the legal moves, what a move and its outcome lead to, what is kept so far.
 #![tactic(auto)]
+
 ghost use Rattle.std.specs.Prelude.{◌≡◌, ltb};
 ghost use Rattle.network.specs.Mask.{mask};
 ghost use Rattle.tree.specs.Parts.{move_of};

@@ -1,6 +1,7 @@
 // The judge of a plan record: fine, or the first of document 01's refusals 2, 3, 4. Tests are joined by `&` and `|`, which make no branches:
 // a branch would lose, where it joins again, what its tests said.
 #![tactic(auto)]
+
 ghost use Rattle.std.specs.Prelude.{◌≡◌, cond};
 ghost use Rattle.plan.specs.Refusal.{judged_number};
 ghost use Rattle.judge.specs.Judge.{head_fine, taken_before, letter_fine, letter_unused, letter_entry, letters_fine, bound_fine, constraint_fine, constraint_unused, constraints_fine, plan_fault};

@@ -1,5 +1,6 @@
 // Masks: bytes whose bit i, value 2 to the power i, stands for letter or point i.
 #![tactic(auto)]
+
 ghost use Rattle.std.specs.Prelude.{◌≡◌, ◌^◌, ltb};
 ghost use Rattle.network.specs.Mask.{bit, count, first_below, submask};
 ghost use Rattle.masks.specs.Masks.{inside};

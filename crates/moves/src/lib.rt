@@ -1,6 +1,7 @@
 // The legal and timely moves of a position in their order: by slot, then points mask, then choices mask. A move is timely where it performs
 // no point before its soonest slot.
 #![tactic(auto)]
+
 ghost use Rattle.std.specs.Prelude.{◌≡◌};
 ghost use Rattle.moves.specs.Moves.{ready_at, from_slot, first_step, next_step};
 

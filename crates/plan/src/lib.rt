@@ -1,5 +1,6 @@
 // The plan record, its entries, its letters as masks, and the refusals.
 #![tactic(auto)]
+
 pub mod bytes;
 pub mod entries;
 pub mod letters;

@@ -1,5 +1,6 @@
 // Plan texts: read into a plan record, written from one.
 #![tactic(auto)]
+
 pub mod entries;
 pub mod reading;
 pub mod writing;

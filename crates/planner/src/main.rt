@@ -1,5 +1,6 @@
 // The program: reads a plan from standard input, and prints its tree or one refusal. What it prints is `answer_text`'s promise.
 #![tactic(auto)]
+
 use libc::{STDIN_FILENO, STDOUT_FILENO};
 
 // Input past the first 1,026 bytes is left unread. Where standard output takes nothing, there is nobody left to tell.

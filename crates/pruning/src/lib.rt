@@ -1,5 +1,6 @@
 // States of the game that are lost already, and slots before which no winning move performs a point: what the search leaves out.
 #![tactic(auto)]
+
 pub mod view;
 
 ghost use Rattle.std.specs.Prelude.{◌≡◌, true, false, ℕ, ◌≤◌, ◌<◌, get_or};

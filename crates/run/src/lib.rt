@@ -1,5 +1,6 @@
 // The crew's run: what a crew is told at a history of reports, and its reports.
 #![tactic(auto)]
+
 mod walk;
 
 ghost use Rattle.std.specs.Prelude.{◌≡◌, ◌<◌};

@@ -1,5 +1,6 @@
 // The search: hopeless, or the tree of first moves.
 #![tactic(auto)]
+
 ghost use Rattle.std.specs.Prelude.{◌≡◌, ◌≤◌, length, replicate};
 ghost use Rattle.network.specs.Game.{start};
 ghost use Rattle.plan.specs.Plan.{network_of};

@@ -1,6 +1,7 @@
 // The table of least slots: for every setting of the letters that a state leaves open, and every point, a slot before which no win performs
 // the point in that setting.
 #![tactic(auto)]
+
 mod cells;
 mod probing;
 mod rounds;

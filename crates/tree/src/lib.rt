@@ -1,5 +1,6 @@
 // A tree in memory: its nodes as bytes, three to a node.
 #![tactic(auto)]
+
 ghost use Rattle.std.specs.Prelude.{◌≡◌, ◌*◌};
 ghost use Rattle.plan.specs.Faults.{put_at};
 ghost use Rattle.tree.specs.Nodes.{legal_length, node_count};

@@ -1,5 +1,6 @@
 // Tree texts: read into bytes, written from bytes.
 #![tactic(auto)]
+
 pub mod reading;
 pub mod writing;
 

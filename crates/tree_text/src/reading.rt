@@ -94,8 +94,8 @@ fn node_in(s: &[u8]) -> Node
 
 // The nodes of a tree text that has this many.
 fn put_nodes(text: &[u8], count: u8, out: &mut [u8])
-    requires count_in_bounds { frame_length 2 + frame_length 4 * count ≤ length text.now }
-    requires count_in_bounds_2 { 3 * count ≤ length out.old }
+    requires text_room { frame_length 2 + frame_length 4 * count ≤ length text.now }
+    requires buffer_room { 3 * count ≤ length out.old }
     ensures { out.new ≡ sets out.old 0 (bytes_in count text.now) }
 {
     let mut at: usize = 5;

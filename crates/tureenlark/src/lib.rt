@@ -1,6 +1,7 @@
 // The planner's calls for programs in other languages: numbers and byte slices of any length and contents. docs/LIBRARY.md says the layouts.
 // Every call with a record is refused with 10 first where that is too short.
 #![tactic(auto)]
+
 ghost use Rattle.std.specs.Prelude.{◌≡◌};
 ghost use Rattle.tree_text.specs.ReadTree.{read_tree_leaves};
 ghost use Rattle.tree_text.specs.WriteTree.{write_tree_leaves};

@@ -1,6 +1,7 @@
 // The two turns of the game: the agent tries moves, the world tries outcomes. They call each other until no point is left, and write the
 // tree of first moves on the way.
 #![tactic(auto)]
+
 ghost use Rattle.std.specs.Prelude.{◌*◌, ◌≤◌, length};
 ghost use Rattle.network.specs.Game.{Legal};
 ghost use Rattle.plan.specs.Plan.{network_of};

@@ -1,6 +1,7 @@
 // Runs what the program prints over files: for each argument, the file's name and then the answer to its contents. The vectors stand in
 // data/; the expected output in `stdout` is by another hand.
 #![tactic(auto)]
+
 use libc::STDOUT_FILENO;
 
 // 4,096 bytes are read, so that the answer itself has to leave out what comes after the first 1,026.

@@ -1,5 +1,6 @@
 // The verdict under fixed outcomes: the least schedule of a plan where all letters are set, or that there is none.
 #![tactic(auto)]
+
 pub mod screen;
 
 ghost use Rattle.std.specs.Prelude.{◌≡◌, ◌≤◌, leb, replicate};

@@ -116,7 +116,6 @@ returns-in_default t c =
 
 pub overflow_add-count : goal.overflow_add-count
 overflow_add-count t c =
-
     omega (arith, child_fits t c (here t (goal.at.overflow_add-count t c).Else-not-legal) (is-child t (goal.at.overflow_add-count t c).After-subtree-below (is-next t (goal.at.overflow_add-count t c).After-after-next)))
 
 pub loop-k-preserved : goal.loop-k-preserved

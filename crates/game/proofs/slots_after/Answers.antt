@@ -14,7 +14,7 @@ pub loop-x-preserved : goal.loop-x-preserved
 loop-x-preserved c =
     let l = c.loop-x in
     elim c.if-has.branch [
-        then-has w ↦ rw w.out-is (fill_put _ l.invariant (omega arith) (rw (← c.has.ensures, w.if-has.true)))
+      | then-has w ↦ rw w.out-is (fill_put _ l.invariant (omega arith) (rw (← c.has.ensures, w.if-has.true)))
       | else-has w ↦ rw w.out-is (fill_skip l.invariant (omega arith) (rw (← c.has.ensures, w.if-has.false)))
     ]
 

@@ -26,8 +26,8 @@ pub returns-in-Refused : goal.returns-in-Refused
 returns-in-Refused c =
     let a = c.args in
     let e =
-        plan_refused a.plan a.buf.now (omega arith) c.in-Refused.r
-        (ap judged_number (sym c.in-Refused.is) ∙ c.judge-judged.ensures) in
+    plan_refused a.plan a.buf.now (omega arith) c.in-Refused.r
+    (ap judged_number (sym c.in-Refused.is) ∙ c.judge-judged.ensures) in
     record { answer = e.0; buffer = e.1 }
 
 -- the judge found no fault
@@ -80,10 +80,10 @@ returns-in_default-found c =
     let r = c.from_start-found in
     let wf = well_formed (goal.at.returns-in_default-found c).In_default in
     let e =
-        turns_lost a.plan a.buf.now (omega arith) wf r.new.buf _
-        (subst (λ (x : Turn). AgentFinds (network_of a.plan) (start (network_of a.plan)) x (take 573 a.buf.now) r.new.buf)
-        c.in_default-found.is r.ensures)
-        c.clear.ensures in
+    turns_lost a.plan a.buf.now (omega arith) wf r.new.buf _
+    (subst (λ (x : Turn). AgentFinds (network_of a.plan) (start (network_of a.plan)) x (take 573 a.buf.now) r.new.buf)
+    c.in_default-found.is r.ensures)
+    c.clear.ensures in
     record { answer = e.0; buffer = e.1 }
 
 pub overflow_mul-n : goal.overflow_mul-n

@@ -100,7 +100,6 @@ agent-slice_bounds-world-count t c = let r = agent-room t c in omega arith
 pub agent-slice_bounds-world-start : goal.agent-slice_bounds-world-start
 agent-slice_bounds-world-start t c = let r = agent-room t c in omega arith
 
-
 pub agent-world-below-requires : goal.agent-world-below-requires
 agent-world-below-requires t c =
     let a = c.args in
@@ -227,7 +226,6 @@ world-slice_bounds-agent-count t c = let r = world-room t c (world-long t (goal.
 
 pub world-slice_bounds-agent-start : goal.world-slice_bounds-agent-start
 world-slice_bounds-agent-start t c = let r = world-room t c (world-long t (goal.at.world-slice_bounds-agent-start t c).Start) (world-counts t (goal.at.world-slice_bounds-agent-start t c).After-submasks-outcomes) in omega arith
-
 
 pub world-agent-below-requires : goal.world-agent-below-requires
 world-agent-below-requires t c =

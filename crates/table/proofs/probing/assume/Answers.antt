@@ -17,7 +17,7 @@ passed c rows =
     let t = c.args.s in
     let l = c.loop-table in
     elim c.if-other-s.branch [
-        then-other-s w ↦
+      | then-other-s w ↦
           subst (Assuming a rows t c.args.table.now) (sym w.table-is)
           (assume_strike l.d (l.invariant.1 rows) l.invariant.0 c.set_to-other.ensures.0 w.if-other-s.true w.strike.ensures)
       | else-other-s w ↦ subst (Assuming a rows t c.args.table.now) (sym w.table-is) (l.invariant.1 rows)

@@ -20,7 +20,7 @@ passed c =
     let a = c.args in
     let q = c.loop-q.q in
     elim c.if-has.branch [
-        then-has+else-among w ↦
+      | then-has+else-among w ↦
           let there : bit a.moved (bit_xor a.c (2 ^ q) % 64) ≡ false
           = sym (ap (λ (m : ℕ). bit a.moved (bit_xor a.c m % 64)) w.letter_mask.ensures) ∙ sym w.among.ensures ∙ w.if-among.false in
           rw (there, and-false) refl

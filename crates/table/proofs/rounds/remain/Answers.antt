@@ -32,11 +32,11 @@ passed : (c : Joined-not-struck) (first_none_here : c.struck.result ≡ true →
     c.loop-v.d × Gone c.args.v c.args.table.now c.args.c c.loop-v.d
 passed c first_none_here e =
     elim c.if-not-struck.branch [
-        then-not-struck+else-count-eq1 w ↦ absurd (omega (arith, w.count-is))
+      | then-not-struck+else-count-eq1 w ↦ absurd (omega (arith, w.count-is))
       | else-not-struck w ↦ (
-          c.loop-v.invariant.1 (omega (arith, w.count-is)),
-          rw (← c.set_to.ensures.0) (first_none_here w.if-not-struck.false),
-        )
+        c.loop-v.invariant.1 (omega (arith, w.count-is)),
+        rw (← c.set_to.ensures.0) (first_none_here w.if-not-struck.false),
+      )
     ]
 
 -- d was not the last

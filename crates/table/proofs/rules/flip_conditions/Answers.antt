@@ -21,7 +21,7 @@ flip_points-moved-requires c = (
 pub loop-q-preserved : goal.loop-q-preserved
 loop-q-preserved c =
     λ rows. elim c.if-has.branch [
-        then-has w ↦
+      | then-has w ↦
           subst (Tighter c.args.v rows c.args.table.now) (sym w.table-is)
           (join (c.loop-q.invariant rows) (w.flip_points-moved.ensures rows))
       | else-has w ↦ subst (Tighter c.args.v rows c.args.table.now) (sym w.table-is) (c.loop-q.invariant rows)

@@ -17,7 +17,7 @@ flip-moved-requires c = let p = c.requires in
 pub loop-x-preserved : goal.loop-x-preserved
 loop-x-preserved c =
     λ rows. elim c.if-has.branch [
-        then-has w ↦
+      | then-has w ↦
           subst (Tighter c.args.v rows c.args.table.now) (sym w.table-is) (join (c.loop-x.invariant rows) (w.flip-moved.ensures rows))
       | else-has w ↦ subst (Tighter c.args.v rows c.args.table.now) (sym w.table-is) (c.loop-x.invariant rows)
     ]

@@ -23,7 +23,7 @@ put_nodes-requires c =
     let a = c.args in
     let e = sym (ap tree_read_answer c.in-Nodes.is) ∙ c.read_nodes-read.ensures in
     let room = read_room a.text.now a.out.now c.in-Nodes.n e in
-    record { count_in_bounds = room.0; count_in_bounds_2 = omega (arith, room.1, c.if-out-lt573.false) }
+    record { text_room = room.0; buffer_room = omega (arith, room.1, c.if-out-lt573.false) }
 
 pub returns : goal.returns
 returns c =

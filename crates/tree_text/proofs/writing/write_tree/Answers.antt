@@ -31,8 +31,8 @@ pub returns-then-out-size : goal.returns-then-out-size
 returns-then-out-size c =
     let a = c.args in
     let e =
-        tree_short a.bytes.now a.out.now (legal (goal.at.returns-then-out-size c).Else-not-legal_length)
-        (rw c.node_count-nodes.ensures at c.if-out-size.true) in
+    tree_short a.bytes.now a.out.now (legal (goal.at.returns-then-out-size c).Else-not-legal_length)
+    (rw c.node_count-nodes.ensures at c.if-out-size.true) in
     record { answer = e.0; buffer = e.1 }
 
 pub returns : goal.returns
@@ -41,8 +41,8 @@ returns c =
     let l = legal_is _ (legal (goal.at.returns c).Else-not-legal_length) in
     let n : node_count a.bytes.now % 256 ≡ node_count a.bytes.now = omega (arith, l.most) in
     let e =
-        tree_written_lem a.bytes.now a.out.now (legal (goal.at.returns c).Else-not-legal_length)
-        (rw c.node_count-nodes.ensures at c.if-out-size.false) in
+    tree_written_lem a.bytes.now a.out.now (legal (goal.at.returns c).Else-not-legal_length)
+    (rw c.node_count-nodes.ensures at c.if-out-size.false) in
     record {
       answer = rw c.node_count-nodes.ensures e.0;
       buffer = rw (c.put_node_frames.ensures, c.put_head.ensures, c.node_count-nodes.ensures, n) e.1;

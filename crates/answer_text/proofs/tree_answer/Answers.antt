@@ -1,0 +1,17 @@
+-- `tree_answer`: the text stands at the front of blank bytes, and is never refused. Only the checker need believe this file.
+use mathlib.Core.Path.{sym, ap, ◌∙◌}
+use Rattle.frame.specs.Written.{written_answer}
+use Rattle.answer_text.proofs.CodeLaws.{tree_held, never_refused}
+use Rattle.answer_text.proofs.tree_answer.Goals as goal
+
+pub returns-in-Length : goal.returns-in-Length
+returns-in-Length c =
+    tree_held c.args.nodes.now c.blank_text-bytes.result c.requires c.blank_text-bytes.ensures _ _
+    (sym (ap written_answer c.in-Length.is) ∙ c.write_tree-written.ensures.answer)
+    c.write_tree-written.ensures.buffer
+
+pub returns-in-Refused : goal.returns-in-Refused
+returns-in-Refused c =
+    absurd
+    (never_refused c.args.nodes.now c.blank_text-bytes.result c.requires c.blank_text-bytes.ensures c.in-Refused.r
+    (sym (ap written_answer c.in-Refused.is) ∙ c.write_tree-written.ensures.answer))

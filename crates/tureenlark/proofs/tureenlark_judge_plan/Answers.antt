@@ -1,0 +1,20 @@
+-- Short records are refused; else the call is made of the plan that the bytes say. Only the checker need believe this file.
+use mathlib.Core.Path.{◌∙◌, ap}
+use Prim.Native.Nat.{ℕ}
+use Rattle.answers.specs.Numbers.{numbered}
+use Rattle.records.specs.Records.{plan_in}
+use Rattle.judge.specs.Judge.{plan_fault}
+use Rattle.tureenlark.specs.Library.{plan_short}
+use Rattle.tureenlark.proofs.LibraryLaws.{short, long, number_short, number_long}
+use Rattle.tureenlark.proofs.tureenlark_judge_plan.Goals as goal
+
+pub returns-then-plan-lt-LENGTH : goal.returns-then-plan-lt-LENGTH
+returns-then-plan-lt-LENGTH c =
+    let b = c.args.plan.now in
+    c.refused.ensures ∙ number_short (plan_short b) (plan_fault (plan_in b)) 1 (short 400 b c.if-plan-lt-LENGTH.true)
+
+pub returns : goal.returns
+returns c =
+    let b = c.args.plan.now in
+    c.judged.ensures ∙ ap (λ (n : ℕ). numbered n 1) (c.judge.ensures ∙ ap plan_fault c.plan_in.ensures)
+    ∙ number_long (plan_short b) (plan_fault (plan_in b)) 1 (long 400 b c.if-plan-lt-LENGTH.false)
