@@ -5,7 +5,9 @@
 //! what the edit reaches is checked anew. That the rest is proved is true of every such copy, since it is the same text;
 //! and a refusal comes from a module that was checked. `whole` leaves the crate's kept proofs out.
 
+use crate::carried::carried;
 use crate::judge::judge;
+use crate::log::errors;
 use crate::repository::{read, Program};
 use std::fs;
 use std::path::{Path, PathBuf};
@@ -68,20 +70,47 @@ impl Trials<'_> {
         let files = edit.apply(&|f: &str| read(&from.join(f)))?.files;
         put(&place, &files)?;
         replace(&place.join(PROOFS), (!self.whole).then(|| from.join(PROOFS)))?;
-        let log = check(&place);
-        let was = files.iter().map(|(file, _)| Ok((file.clone(), read(&from.join(file))?)));
-        put(&place, &was.collect::<Result<Vec<_>, String>>()?)?;
+        let said = check(&place).and_then(|log| match judge(edit, places, &log) {
+            Err(why) => {
+                Ok(carry(&place, &log)?.map_or((log, Err(why)), |again| (again.clone(), judge(edit, places, &again))))
+            }
+            by => Ok((log, by)),
+        });
+        for part in PARTS.iter().filter(|part| from.join(part).is_dir()) {
+            replace(&place.join(part), Some(from.join(part)))?;
+        }
         replace(&place.join(PROOFS), None)?;
-        let log = log?;
+        let (log, by) = said?;
         let file = p.log(self.root);
         fs::create_dir_all(file.parent().expect("a log stands in a folder")).map_err(|e| e.to_string())?;
         fs::write(&file, &log).map_err(|e| e.to_string())?;
-        judge(edit, places, &log)
+        by
     }
 
     fn place(&self, job: usize) -> PathBuf {
         self.work.join(job.to_string())
     }
+}
+
+/// What the prover says once the answers are given under the new names of their goals; nothing where no name is new.
+fn carry(place: &Path, log: &str) -> Result<Option<String>, String> {
+    let all =
+        carried(log, &errors(log), &|folder| files(&place.join(folder)).into_iter().map(|(_, text)| text).collect());
+    let mut said = String::new();
+    for proof in &all {
+        for (file, text) in files(&place.join(&proof.folder)) {
+            fs::write(&file, proof.apply(&text)).map_err(|e| format!("{}: {e}", file.display()))?;
+        }
+        let conditions = proof.conditions.iter().map(|(old, new)| format!("{new} for {old}"));
+        said += &format!("carried: {}: {}\n", proof.folder, conditions.collect::<Vec<_>>().join(", "));
+    }
+    (!all.is_empty()).then(|| check(place).map(|log| said + &log)).transpose()
+}
+
+/// The files of a folder, with their texts.
+fn files(folder: &Path) -> Vec<(PathBuf, String)> {
+    let entries = fs::read_dir(folder).into_iter().flatten().filter_map(|e| e.ok()).map(|e| e.path());
+    entries.filter_map(|path| read(&path).ok().map(|text| (path, text))).collect()
 }
 
 /// What the prover says of the crate in this folder, where it came to an end: status 0 is proved and 1 is refused.

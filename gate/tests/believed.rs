@@ -197,11 +197,7 @@ fn the_top_counts_the_lines() {
 fn a_variable_is_no_definition() {
     // in Rest.antt a variable is called `inner`, and the definition of that name is used there
     let planted = Planted::new();
-    planted.edit(
-        "crates/one/specs/Rest.antt",
-        "Base as base\n",
-        "Base as base\nuse Rattle.one.specs.Inner.{inner}\n",
-    );
+    planted.edit("crates/one/specs/Rest.antt", "Base as base\n", "Base as base\nuse Rattle.one.specs.Inner.{inner}\n");
     assert_eq!(planted.faults(), Vec::<String>::new());
     planted.edit("crates/one/specs/Rest.antt", "rest inner = inner.left", "rest p = inner");
     planted.only_fault("one/specs/Inner.antt: its header has to end: To be believed, for the rest only.");

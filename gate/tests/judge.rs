@@ -1,7 +1,9 @@
 //! A refusal of each kind, planted: which count as a fact of the wrong program's own, and which show nothing.
 
+use gate::carried::{carried, Carried};
 use gate::edit::{Edit, Place};
 use gate::judge::judge;
+use gate::log::errors;
 
 const SOURCE: &str = "\
 pub const MOST: usize = 3;
@@ -35,11 +37,13 @@ fn log(lines: &[&str]) -> String {
     lines.join("\n") + "\nlogic=not-proved\n"
 }
 
-const DIFFER: &str = "./proofs/lesser/Answers.antt:11:13: error: `returns`: as printed, the two types differ only where \
+const DIFFER: &str =
+    "./proofs/lesser/Answers.antt:11:13: error: `returns`: as printed, the two types differ only where \
                       one has `c.args.b` (expected), right after `mathlib.Core.Path.◌≡◌`\n  and the other has \
                       `c.args.a` (found)";
 
-const OMEGA: &str = "./proofs/lesser/Answers.antt:15:67: error: `returns`: `omega`: the goal does not follow from what \
+const OMEGA: &str =
+    "./proofs/lesser/Answers.antt:15:67: error: `returns`: `omega`: the goal does not follow from what \
                      it read. All of that holds, and the goal fails, at `c.args.a` = 1";
 
 /// What stands before the line of a function that has a goal with no proof.
@@ -50,12 +54,14 @@ const FALSE: &str = "note: src/lib.rt:3:1: it is not proved that what the functi
 const MEASURE: &str = "note: src/lib.rt:4:5: it is not proved that the loop ends, by its measure \
                        (`loop-i-smaller-then-i-eq0`); `search` gave up at one of its limits";
 
-const MISSING: &str = "./proofs/lesser/Answers.antt:8:26: error: `returns-then-a-leb`: `goal.returns-then-a-leb`: module \
+const MISSING: &str =
+    "./proofs/lesser/Answers.antt:8:26: error: `returns-then-a-leb`: `goal.returns-then-a-leb`: module \
                        `Rattle.one.proofs.lesser.Goals` has no `returns-then-a-leb` that can be named from here (names \
                        in it that begin alike: `returns`)";
 
 const NOT_PROVED: &str = "fn one::lesser: not proved";
-const NO_PROOF: &str = "fn one::lesser: no proof: expected answers in ./proofs/lesser/Answers.antt; `search` did not prove";
+const NO_PROOF: &str =
+    "fn one::lesser: no proof: expected answers in ./proofs/lesser/Answers.antt; `search` did not prove";
 
 fn says(program: (Edit, Vec<Place>), log: &str) -> Result<String, String> {
     judge(&program.0, &program.1, log)
@@ -137,7 +143,8 @@ fn an_error_in_another_functions_proof_shows_nothing() {
 
 #[test]
 fn something_refused_below_shows_nothing() {
-    let below = "./proofs/lesser/Answers.antt:11:5: error: 1 declaration that depends on `least`, which was not admitted, was \
+    let below =
+        "./proofs/lesser/Answers.antt:11:5: error: 1 declaration that depends on `least`, which was not admitted, was \
                  not checked: returns";
     refused(body(), &log(&[below, NOT_PROVED]), "only rests on");
     refused(body(), &log(&["fn one::lesser: no proof: it calls `one::x`, which is not proved"]), "no error stands");
@@ -152,7 +159,8 @@ fn a_name_shows_nothing() {
 #[test]
 fn a_place_that_is_gone_shows_nothing() {
     refused(body(), &log(&[MISSING, NOT_PROVED]), "a name or a place");
-    let field = "./proofs/lesser/Answers.antt:19:105: error: `returns`: record `Rattle.one.proofs.lesser.Lts.Else2` has no \
+    let field =
+        "./proofs/lesser/Answers.antt:19:105: error: `returns`: record `Rattle.one.proofs.lesser.Lts.Else2` has no \
                  field `if-a-leb` (nearest: .if-a-ltb)";
     refused(body(), &log(&[field, NOT_PROVED]), "a name or a place");
 }
@@ -203,7 +211,8 @@ fn a_definition_must_name_what_it_makes_false() {
     let wrong = || edit("file: specs/Least.antt\nold: least = 1\nnew: least = 2\n");
     let named = || edit("fact: one_least\nfile: specs/Least.antt\nold: least = 1\nnew: least = 2\n");
     let case = "./proofs/Cases.antt:9:5: error: `one_least`: expected type `1 ≡ x`, but this has type `1 ≡ y`";
-    let rests = "./proofs/Cases.antt:9:5: error: 2 declarations that depend on `least`, which was rejected, were not checked: \
+    let rests =
+        "./proofs/Cases.antt:9:5: error: 2 declarations that depend on `least`, which was rejected, were not checked: \
                  one_least, other (via one_least)";
     refused(wrong(), &log(&[case]), "names no fact");
     refused(named(), &log(&[&case.replace("one_least", "other")]), "nothing is said against");
@@ -264,4 +273,33 @@ fn a_law_is_no_case() {
     let named = edit("fact: one_least\nfile: specs/Least.antt\nold: least = 1\nnew: least = 2\n");
     let law = "./proofs/Laws.antt:9:5: error: `one_least`: `omega`: the goal does not follow from what it read";
     refused(named, &log(&[law]), "is no case");
+}
+
+#[test]
+fn answers_are_carried_to_the_new_names_of_their_goals() {
+    let answers =
+        "pub returns-then-i-ge8 : goal.returns-then-i-ge8\nreturns-then-i-ge8 c = f (g c).Then-i-ge8 c.if-i-ge80\n\
+                   pub returns : goal.returns\n";
+    let gone = "./proofs/lesser/Answers.antt:8:26: error: `returns-then-i-ge8`: `goal.returns-then-i-ge8`: module \
+                `Rattle.one.proofs.lesser.Goals` has no `returns-then-i-ge8` that can be named from here";
+    let help = "help: `Goals` has no `returns-then-i-ge8`; rattle asks for `returns`, `returns-then-i-ge7`";
+    let log = log(&[gone, NOT_PROVED, help]);
+    let found = carried(&log, &errors(&log), &|_| answers.to_string());
+    let conditions = vec![("i-ge8".to_string(), "i-ge7".to_string())];
+    assert_eq!(found, vec![Carried { folder: "proofs/lesser".to_string(), conditions }]);
+    let wanted =
+        "pub returns-then-i-ge7 : goal.returns-then-i-ge7\nreturns-then-i-ge7 c = f (g c).Then-i-ge7 c.if-i-ge80\n\
+                  pub returns : goal.returns\n";
+    assert_eq!(found[0].apply(answers), wanted);
+    // a name that has its answer already is not taken, and another error asks for none
+    assert_eq!(carried(&log, &errors(&log), &|_| wanted.to_string()), vec![]);
+    assert_eq!(carried(DIFFER, &errors(DIFFER), &|_| answers.to_string()), vec![]);
+}
+
+#[test]
+fn a_field_is_carried_too() {
+    let field = "./proofs/lesser/Answers.antt:41:67: error: `returns`: record `Rattle.one.proofs.lesser.Lts.After` has no field \
+                 `if-not-fine` (nearest: .if-fine, .fine)";
+    let found = carried(field, &errors(field), &|_| "returns c = c.if-not-fine\n".to_string());
+    assert_eq!(found[0].apply("c.if-not-fine"), "c.if-fine");
 }
