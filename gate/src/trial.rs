@@ -65,6 +65,8 @@ impl Trials<'_> {
 
     fn one(&self, job: usize, p: &Program) -> Result<String, String> {
         let (edit, places) = p.edit.as_ref().map_err(|e| format!("BAD EDIT: {e}"))?;
+        let file = p.log(self.root);
+        let _ = fs::remove_file(&file);
         let from = self.root.join("crates").join(&p.krate);
         let place = self.place(job).join("crates").join(&p.krate);
         let files = edit.apply(&|f: &str| read(&from.join(f)))?.files;
@@ -81,7 +83,6 @@ impl Trials<'_> {
         }
         replace(&place.join(PROOFS), None)?;
         let (log, by) = said?;
-        let file = p.log(self.root);
         fs::create_dir_all(file.parent().expect("a log stands in a folder")).map_err(|e| e.to_string())?;
         fs::write(&file, &log).map_err(|e| e.to_string())?;
         by
