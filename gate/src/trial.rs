@@ -3,7 +3,7 @@
 //! Every crate is first proved as it is, by `rt all check` in the repository, which keeps in each crate's `out` the proof
 //! of each of its modules. A wrong program is then checked in a copy of the repository, over a copy of those proofs: only
 //! what the edit reaches is checked anew. That the rest is proved is true of every such copy, since it is the same text;
-//! and a refusal comes from a module that was checked. `whole` leaves the crate's kept proofs out.
+//! and a refusal comes from a module that was checked. `whole` has everything checked anew, the crates below too.
 
 use crate::carried::carried;
 use crate::judge::judge;
@@ -72,12 +72,7 @@ impl Trials<'_> {
         let files = edit.apply(&|f: &str| read(&from.join(f)))?.files;
         put(&place, &files)?;
         replace(&place.join(PROOFS), (!self.whole).then(|| from.join(PROOFS)))?;
-        let said = check(&place).and_then(|log| match judge(edit, places, &log) {
-            Err(why) => {
-                Ok(carry(&place, &log)?.map_or((log, Err(why)), |again| (again.clone(), judge(edit, places, &again))))
-            }
-            by => Ok((log, by)),
-        });
+        let said = self.said(&place, &|log| judge(edit, places, log));
         for part in PARTS.iter().filter(|part| from.join(part).is_dir()) {
             replace(&place.join(part), Some(from.join(part)))?;
         }
@@ -88,15 +83,45 @@ impl Trials<'_> {
         by
     }
 
+    /// What the prover says of the crate in this folder, and what that comes to; where it shows nothing, once more with the
+    /// answers under the new names of their goals, if some have one.
+    fn said(&self, place: &Path, judged: &dyn Fn(&str) -> Result<String, String>) -> Result<Said, String> {
+        let log = self.check(place)?;
+        let by = judged(&log);
+        if by.is_err() {
+            if let Some(names) = carry(place, &log)? {
+                let log = names + &self.check(place)?;
+                let by = judged(&log);
+                return Ok((log, by));
+            }
+        }
+        Ok((log, by))
+    }
+
+    /// What the prover says of the crate in this folder, where it came to an end: status 0 is proved and 1 is refused.
+    fn check(&self, place: &Path) -> Result<String, String> {
+        let verb = if self.whole { "verdict" } else { "check" };
+        let run = Command::new("rt").args([verb, "--jobs", "1"]).current_dir(place).stdin(Stdio::null()).output();
+        let output = run.map_err(|e| format!("rt: {e}"))?;
+        let log = String::from_utf8_lossy(&output.stdout).into_owned() + &String::from_utf8_lossy(&output.stderr);
+        match output.status.code() {
+            Some(0 | 1) => Ok(log),
+            status => Err(format!("rt ended with status {status:?}:\n{log}")),
+        }
+    }
+
     fn place(&self, job: usize) -> PathBuf {
         self.work.join(job.to_string())
     }
 }
 
-/// What the prover says once the answers are given under the new names of their goals; nothing where no name is new.
+/// A log, and what refused the wrong program or why that shows nothing.
+type Said = (String, Result<String, String>);
+
+/// Writes the answers under the new names of their goals, and says which; nothing where no name is new.
 fn carry(place: &Path, log: &str) -> Result<Option<String>, String> {
-    let all =
-        carried(log, &errors(log), &|folder| files(&place.join(folder)).into_iter().map(|(_, text)| text).collect());
+    let texts = |folder: &str| files(&place.join(folder)).into_iter().map(|(_, text)| text).collect();
+    let all = carried(log, &errors(log), &texts);
     let mut said = String::new();
     for proof in &all {
         for (file, text) in files(&place.join(&proof.folder)) {
@@ -105,24 +130,13 @@ fn carry(place: &Path, log: &str) -> Result<Option<String>, String> {
         let conditions = proof.conditions.iter().map(|(old, new)| format!("{new} for {old}"));
         said += &format!("carried: {}: {}\n", proof.folder, conditions.collect::<Vec<_>>().join(", "));
     }
-    (!all.is_empty()).then(|| check(place).map(|log| said + &log)).transpose()
+    Ok((!all.is_empty()).then_some(said))
 }
 
 /// The files of a folder, with their texts.
 fn files(folder: &Path) -> Vec<(PathBuf, String)> {
     let entries = fs::read_dir(folder).into_iter().flatten().filter_map(|e| e.ok()).map(|e| e.path());
     entries.filter_map(|path| read(&path).ok().map(|text| (path, text))).collect()
-}
-
-/// What the prover says of the crate in this folder, where it came to an end: status 0 is proved and 1 is refused.
-fn check(place: &Path) -> Result<String, String> {
-    let run = Command::new("rt").args(["check", "--jobs", "1"]).current_dir(place).stdin(Stdio::null()).output();
-    let output = run.map_err(|e| format!("rt: {e}"))?;
-    let log = String::from_utf8_lossy(&output.stdout).into_owned() + &String::from_utf8_lossy(&output.stderr);
-    match output.status.code() {
-        Some(0 | 1) => Ok(log),
-        status => Err(format!("rt ended with status {status:?}:\n{log}")),
-    }
 }
 
 fn put(place: &Path, files: &[(String, String)]) -> Result<(), String> {
