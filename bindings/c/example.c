@@ -2,7 +2,7 @@
  * Each argument is one report, a mask as a decimal or, behind 0x, a hexadecimal number. At each history the instruction is printed, or
  * `done`. A refusal ends the program with `refused: N` and status 1; arguments that are no masks end it with status 2.
  *
- *     cc -std=c99 -I bindings/c bindings/c/example.c target/staticlib/libtureenlark.a -o example
+ *     cc -std=c99 -I bindings/c bindings/c/example.c crates/tureenlark/out/libtureenlark.a -o example
  *     ./example 1 0 0 0 < examples/register.plan
  */
 #include <stdio.h>
