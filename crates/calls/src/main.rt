@@ -6,7 +6,6 @@ mod hex_bytes;
 mod lines;
 mod printing;
 mod steps;
-mod system;
 
 use steps::Kept;
 

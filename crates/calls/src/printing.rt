@@ -7,9 +7,8 @@ use run::{History, Instruction, Shown};
 use verdict::Found;
 use verdict::screen::Screened;
 
-// Where standard output takes nothing, there is nobody left to tell.
 pub fn print(rt: &impl Print, text: &[u8]) {
-    let _ = rt.write_all(text);
+    system::print(rt, text);
 }
 
 pub fn end_line(rt: &impl Print) {

@@ -2,18 +2,11 @@
 // data/; the expected output in `stdout` is by another hand.
 #![tactic(auto)]
 
-mod system;
-
 use std::io;
-
-// Where standard output takes nothing, there is nobody left to tell.
-fn print(rt: &impl Print, text: &[u8]) {
-    let _ = rt.write_all(text);
-}
 
 // A line to standard error: the file's name, and why it was not opened.
 fn fail(errors: &impl Print, name: &[u8], why: io::Error) {
-    print(errors, name);
+    system::print(errors, name);
     let _ = errors.println(format_args!(": {why}"));
 }
 
@@ -31,15 +24,15 @@ fn answer_file(rt: &HostRuntime, name: &[u8]) {
     let answer = answer_text::answer_to(&input[..n]);
     let text = answer.bytes;
     let length = answer.length;
-    print(rt, &text[..length]);
+    system::print(rt, &text[..length]);
 }
 
 // The file that argument i names.
 fn answer_argument(rt: &HostRuntime, i: usize) {
     let mut name = [0u8; 4096];
     let n = system::argument(rt, i, &mut name);
-    print(rt, &name[..n]);
-    print(rt, b"\n");
+    system::print(rt, &name[..n]);
+    system::print(rt, b"\n");
     answer_file(rt, &name[..n]);
 }
 

@@ -5,5 +5,5 @@ use Rattle.planner.proofs.main.Goals as goal
 pub slice_bounds-text-end : goal.slice_bounds-text-end
 slice_bounds-text-end c = text_inside _ c.answer_to-answer.result c.answer_to-answer.ensures
 
-pub slice_bounds-write_all-end : goal.slice_bounds-write_all-end
-slice_bounds-write_all-end c = text_length _ c.answer_to-answer.result c.answer_to-answer.ensures
+pub slice_bounds-print-end : goal.slice_bounds-print-end
+slice_bounds-print-end c = text_length _ c.answer_to-answer.result c.answer_to-answer.ensures

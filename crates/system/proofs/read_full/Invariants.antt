@@ -1,6 +1,6 @@
--- `calls::system::read_full` ends, and answers no more than the length of the buffer. Only the checker need believe this file.
+-- `system::read_full` ends, and answers no more than the length of the buffer. Only the checker need believe this file.
 use Rattle.std.proofs.Common.{length, ◌-◌, ◌≤◌}
-use Rattle.calls.proofs.system.read_full.Given as goal
+use Rattle.system.proofs.read_full.Given as goal
 
 abbrev pub invariant-loop-done : goal.invariant-loop-done
 invariant-loop-done g l = l.done ≤ length l.buffer

@@ -1,4 +1,6 @@
-// Arguments, files and reading, over std.
+// What the programs need of the system, over std: arguments, files, reading and printing.
+#![tactic(auto)]
+
 ghost use Rattle.std.specs.Prelude.{◌≤◌, length};
 
 use std::env::FillError;
@@ -53,4 +55,9 @@ pub fn read_full(input: &mut impl Read, buffer: &mut [u8]) -> usize
         done += n;
     }
     done
+}
+
+// Where standard output takes nothing, there is nobody left to tell.
+pub fn print(rt: &impl Print, text: &[u8]) {
+    let _ = rt.write_all(text);
 }

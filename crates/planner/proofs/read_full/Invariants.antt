@@ -1,9 +1,0 @@
--- `planner::read_full` ends, and answers no more than the length of the buffer. Only the checker need believe this file.
-use Rattle.std.proofs.Common.{length, ◌-◌, ◌≤◌}
-use Rattle.planner.proofs.read_full.Given as goal
-
-abbrev pub invariant-loop-done : goal.invariant-loop-done
-invariant-loop-done g l = l.done ≤ length l.buffer
-
-abbrev pub decreases-loop-done : goal.decreases-loop-done
-decreases-loop-done g l = length l.buffer - l.done
