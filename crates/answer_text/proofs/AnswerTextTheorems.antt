@@ -18,7 +18,7 @@ use Rattle.plan.proofs.PlanTheorems.{is_network}
 use Rattle.plan.specs.declared.Plan.{Plan}
 use Rattle.plan.specs.declared.Refusal.TheVariants as refusal
 use Rattle.plan.specs.Refusal.{refusal_number}
-use Rattle.plan.specs.Answer.{Answer, fine}
+use Rattle.plan.specs.Answer.{Answer}
 use Rattle.plan.specs.Plan.{network_of}
 use Rattle.plan.specs.WellFormed.{WellFormed}
 use Rattle.frame.specs.Hex.{hex_digit}

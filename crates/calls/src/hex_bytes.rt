@@ -1,5 +1,5 @@
 // What HEX says: bytes, a plan record, a history. Where two digits are missing or wrong, `reading::value_at` answers 0.
-ghost use Rattle.io.specs.Counts.{IsPrefixLen};
+ghost use Rattle.std.specs.Prelude.{◌≡◌, ◌≤◌, length, take};
 
 use crate::lines;
 use frame::reading;
@@ -9,7 +9,8 @@ use run::History;
 
 // The bytes at the front of the buffer, and how many. What has no room is left out, and so is a last digit by itself.
 pub fn put_bytes(digits: &[u8], out: &mut [u8]) -> usize
-    ensures { IsPrefixLen result out.new }
+    ensures in_bounds { result ≤ length out.new }
+    ensures front { result ≡ length (take result out.new) }
 {
     let mut rest = digits;
     let mut i: usize = 0;

@@ -1,6 +1,5 @@
 // Lines of a case file and parts of them. Parts are cut where the bytes end, so that no caller has to show a bound.
-ghost use Rattle.std.specs.Prelude.{◌≡◌, ◌-◌, ◌≤◌, length};
-ghost use Rattle.io.specs.Counts.{IsPrefixLen};
+ghost use Rattle.std.specs.Prelude.{◌≡◌, ◌-◌, ◌≤◌, length, take};
 
 // How many bytes stand before the first line feed; all of them where there is none.
 pub fn line_end(s: &[u8]) -> usize
@@ -43,7 +42,8 @@ fn exchanged(b: u8, old: u8, new: u8) -> u8 {
 
 // The text at the front of the buffer, with `new` for each `old`, and its length. What has no room is left out.
 pub fn put_exchanged(text: &[u8], old: u8, new: u8, out: &mut [u8]) -> usize
-    ensures { IsPrefixLen result out.new }
+    ensures in_bounds { result ≤ length out.new }
+    ensures front { result ≡ length (take result out.new) }
 {
     let mut i: usize = 0;
     while i < text.len() {

@@ -10,13 +10,13 @@ mod steps;
 use steps::Kept;
 
 // The lines of one file, each of which prints one line. A last line needs no line feed.
-fn carry_out_lines(text: &[u8]) {
+fn carry_out_lines(rt: &impl Print, text: &[u8]) {
     let mut kept = Kept::nothing();
     let mut rest = text;
     while 0 < rest.len() {
         let end = lines::line_end(rest);
-        let next = kept.carry_out(lines::front(rest, end));
-        printing::end_line();
+        let next = kept.carry_out(rt, lines::front(rest, end));
+        printing::end_line(rt);
         let following = lines::behind(lines::behind(rest, end), 1);
         kept = next;
         rest = following;
@@ -24,27 +24,25 @@ fn carry_out_lines(text: &[u8]) {
 }
 
 // The file that argument i names: its first 65,536 bytes.
-fn carry_out_file(i: usize) {
-    let mut path = io::buffer();
-    let length = os::arg(i, &mut path);
-    let fd = os::open_read(&path[..length]);
-    if fd < 0 {
-        printing::print(b"cannot open");
-        printing::end_line();
+fn carry_out_file(rt: &HostRuntime, i: usize) {
+    let mut path = [0u8; 4096];
+    let length = system::argument(rt, i, &mut path);
+    let Ok(mut file) = system::open_read(rt, &path[..length]) else {
+        printing::print(rt, b"cannot open");
+        printing::end_line(rt);
         return;
-    }
-    let mut text = io::large_buffer();
-    let size = io::read_full(fd, &mut text);
-    libc::close(fd);
-    carry_out_lines(&text[..size]);
+    };
+    let mut text = [0u8; 65536];
+    let size = system::read_full(&mut file, &mut text);
+    carry_out_lines(rt, &text[..size]);
 }
 
-fn main() {
-    let count = os::arg_count();
+fn main(rt: HostRuntime) {
+    let count = system::argument_count(&rt);
     // argument 0 is the program's own name
     let mut i: usize = 1;
     while i < count {
-        carry_out_file(i);
+        carry_out_file(&rt, i);
         i += 1;
     }
 }

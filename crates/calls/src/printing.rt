@@ -2,128 +2,127 @@
 use crate::lines;
 use differences::{Row, Tabled};
 use frame::{Written, hex, writing};
-use libc::STDOUT_FILENO;
 use plan::{Judged, Refusal};
 use run::{History, Instruction, Shown};
 use verdict::Found;
 use verdict::screen::Screened;
 
-pub fn print(text: &[u8]) {
-    io::write_all(STDOUT_FILENO, text);
+pub fn print(rt: &impl Print, text: &[u8]) {
+    system::print(rt, text);
 }
 
-pub fn end_line() {
-    print(b"\n");
+pub fn end_line(rt: &impl Print) {
+    print(rt, b"\n");
 }
 
 // Two digits.
-fn print_byte(b: u8) {
-    print(&[hex::hex_digit(b / 16), hex::hex_digit(b)]);
+fn print_byte(rt: &impl Print, b: u8) {
+    print(rt, &[hex::hex_digit(b / 16), hex::hex_digit(b)]);
 }
 
-pub fn print_eight(bytes: [u8; 8]) {
+pub fn print_eight(rt: &impl Print, bytes: [u8; 8]) {
     let mut i: usize = 0;
     while i < 8 {
-        print_byte(bytes[i]);
+        print_byte(rt, bytes[i]);
         i += 1;
     }
 }
 
-pub fn print_history(history: History) {
+pub fn print_history(rt: &impl Print, history: History) {
     let masks = history.masks;
-    print_byte(history.count);
-    print_eight(masks);
+    print_byte(rt, history.count);
+    print_eight(rt, masks);
 }
 
 // Its frame, without the line feed.
-pub fn print_refusal(r: Refusal) {
+pub fn print_refusal(rt: &impl Print, r: Refusal) {
     let frame = writing::refusal_frame(r);
-    print(lines::front(&frame, 4));
+    print(rt, lines::front(&frame, 4));
 }
 
 // A word for what is fine, or the refusal.
-pub fn print_judged(fine: &[u8], answer: Judged) {
+pub fn print_judged(rt: &impl Print, fine: &[u8], answer: Judged) {
     match answer {
-        Judged::Fine => print(fine),
-        Judged::Refused(r) => print_refusal(r),
+        Judged::Fine => print(rt, fine),
+        Judged::Refused(r) => print_refusal(rt, r),
     }
 }
 
 // A text with `|` for each line feed.
-fn print_text(text: &[u8]) {
+fn print_text(rt: &impl Print, text: &[u8]) {
     // no text is longer
     let mut line = [0u8; 1724];
     let size = lines::put_exchanged(text, b'\n', b'|', &mut line);
-    print(&line[..size]);
+    print(rt, &line[..size]);
 }
 
 // The text that was written at the front of the buffer, or the refusal.
-pub fn print_written(answer: Written, out: &[u8]) {
+pub fn print_written(rt: &impl Print, answer: Written, out: &[u8]) {
     match answer {
-        Written::Length(n) => print_text(lines::front(out, n)),
-        Written::Refused(r) => print_refusal(r),
+        Written::Length(n) => print_text(rt, lines::front(out, n)),
+        Written::Refused(r) => print_refusal(rt, r),
     }
 }
 
-pub fn print_found(found: Found) {
+pub fn print_found(rt: &impl Print, found: Found) {
     match found {
-        Found::Least => print(b"least"),
-        Found::Nothing => print(b"none"),
-        Found::Refused(r) => print_refusal(r),
+        Found::Least => print(rt, b"least"),
+        Found::Nothing => print(rt, b"none"),
+        Found::Refused(r) => print_refusal(rt, r),
     }
 }
 
-pub fn print_tabled(tabled: Tabled) {
+pub fn print_tabled(rt: &impl Print, tabled: Tabled) {
     match tabled {
-        Tabled::Table => print(b"table"),
-        Tabled::Nothing => print(b"none"),
-        Tabled::Refused(r) => print_refusal(r),
+        Tabled::Table => print(rt, b"table"),
+        Tabled::Nothing => print(rt, b"none"),
+        Tabled::Refused(r) => print_refusal(rt, r),
     }
 }
 
 // Four digits.
-fn print_entry(bits: u16) {
-    print_byte((bits / 256) as u8);
-    print_byte((bits % 256) as u8);
+fn print_entry(rt: &impl Print, bits: u16) {
+    print_byte(rt, (bits / 256) as u8);
+    print_byte(rt, (bits % 256) as u8);
 }
 
 // Eight entries.
-fn print_row(row: Row) {
+fn print_row(rt: &impl Print, row: Row) {
     let to = row.to;
     let mut y: usize = 0;
     while y < 8 {
-        print_entry(to[y]);
+        print_entry(rt, to[y]);
         y += 1;
     }
 }
 
-pub fn print_rows(rows: [Row; 8]) {
+pub fn print_rows(rt: &impl Print, rows: [Row; 8]) {
     let mut x: usize = 0;
     while x < 8 {
-        print_row(rows[x]);
+        print_row(rt, rows[x]);
         x += 1;
     }
 }
 
-pub fn print_screened(answer: Screened) {
+pub fn print_screened(rt: &impl Print, answer: Screened) {
     match answer {
-        Screened::Passed => print(b"passes"),
-        Screened::Failed => print(b"fails"),
-        Screened::Refused(r) => print_refusal(r),
+        Screened::Passed => print(rt, b"passes"),
+        Screened::Failed => print(rt, b"fails"),
+        Screened::Refused(r) => print_refusal(rt, r),
     }
 }
 
-fn print_instruction(v: Instruction) {
-    print(b"instruct ");
-    print_byte(v.slot);
-    print_byte(v.points);
-    print_byte(v.choices);
+fn print_instruction(rt: &impl Print, v: Instruction) {
+    print(rt, b"instruct ");
+    print_byte(rt, v.slot);
+    print_byte(rt, v.points);
+    print_byte(rt, v.choices);
 }
 
-pub fn print_shown(answer: Shown) {
+pub fn print_shown(rt: &impl Print, answer: Shown) {
     match answer {
-        Shown::Instruct(v) => print_instruction(v),
-        Shown::Done => print(b"done"),
-        Shown::Refused(r) => print_refusal(r),
+        Shown::Instruct(v) => print_instruction(rt, v),
+        Shown::Done => print(rt, b"done"),
+        Shown::Refused(r) => print_refusal(rt, r),
     }
 }

@@ -45,54 +45,54 @@ impl Kept {
     }
 
     // Only prints.
-    fn say(self, words: &[u8]) -> Kept {
-        printing::print(words);
+    fn say(self, rt: &impl Print, words: &[u8]) -> Kept {
+        printing::print(rt, words);
         self
     }
 
     // Only prints a refusal.
-    fn refuse(self, r: Refusal) -> Kept {
-        printing::print_refusal(r);
+    fn refuse(self, rt: &impl Print, r: Refusal) -> Kept {
+        printing::print_refusal(rt, r);
         self
     }
 
-    fn write_plan(self) -> Kept {
+    fn write_plan(self, rt: &impl Print) -> Kept {
         let plan = self.plan;
         let mut out = [0u8; 1025];
         let written = plan_text::writing::write_plan(plan, &mut out);
-        printing::print_written(written, &out);
+        printing::print_written(rt, written, &out);
         self
     }
 
-    fn write_tree(self) -> Kept {
+    fn write_tree(self, rt: &impl Print) -> Kept {
         let nodes = self.nodes;
         let mut out = [0u8; 1724];
         let written = tree_text::writing::write_tree(lines::front(&nodes, self.size), &mut out);
-        printing::print_written(written, &out);
+        printing::print_written(rt, written, &out);
         self
     }
 
-    fn read_plan(self, text: &[u8]) -> Kept {
-        let mut frames = io::large_buffer();
+    fn read_plan(self, rt: &impl Print, text: &[u8]) -> Kept {
+        let mut frames = [0u8; 65536];
         let n = lines::put_exchanged(text, b'|', b'\n', &mut frames);
         let read = plan_text::reading::read_plan(&frames[..n]);
         let plan = read.plan;
         let answer = read.answer;
         let next = self.with_plan(plan);
         match answer {
-            Judged::Fine => next.write_plan(),
-            Judged::Refused(r) => next.refuse(r),
+            Judged::Fine => next.write_plan(rt),
+            Judged::Refused(r) => next.refuse(rt, r),
         }
     }
 
-    fn read_tree(self, text: &[u8]) -> Kept {
-        let mut frames = io::large_buffer();
+    fn read_tree(self, rt: &impl Print, text: &[u8]) -> Kept {
+        let mut frames = [0u8; 65536];
         let n = lines::put_exchanged(text, b'|', b'\n', &mut frames);
         let mut nodes = [0u8; 600];
         let read = tree_text::reading::read_tree(&frames[..n], &mut nodes[..573]);
         match read {
-            TreeRead::Nodes(count) => self.with_tree(nodes, 3 * (count as usize)).write_tree(),
-            TreeRead::Refused(r) => self.with_tree(nodes, 0).refuse(r),
+            TreeRead::Nodes(count) => self.with_tree(nodes, 3 * (count as usize)).write_tree(rt),
+            TreeRead::Refused(r) => self.with_tree(nodes, 0).refuse(rt, r),
         }
     }
 
@@ -102,52 +102,52 @@ impl Kept {
         self.with_tree(nodes, size)
     }
 
-    fn check(self) -> Kept {
+    fn check(self, rt: &impl Print) -> Kept {
         let plan = self.plan;
         let nodes = self.nodes;
         let answer = checker::check_tree(plan, lines::front(&nodes, self.size));
-        printing::print_judged(b"yes", answer);
+        printing::print_judged(rt, b"yes", answer);
         self
     }
 
-    fn decide(self, digits: &[u8]) -> Kept {
+    fn decide(self, rt: &impl Print, digits: &[u8]) -> Kept {
         let plan = self.plan;
         let verdict = verdict::least_schedule(plan, reading::value_at(digits, 0));
         let found = verdict.found;
         let slots = verdict.slots;
-        printing::print_found(found);
-        printing::print(b" ");
-        printing::print_eight(slots);
+        printing::print_found(rt, found);
+        printing::print(rt, b" ");
+        printing::print_eight(rt, slots);
         self
     }
 
-    fn tabulate(self, digits: &[u8]) -> Kept {
+    fn tabulate(self, rt: &impl Print, digits: &[u8]) -> Kept {
         let plan = self.plan;
         let table = differences::difference_table(plan, reading::value_at(digits, 0));
         let tabled = table.tabled;
         let rows = table.rows;
-        printing::print_tabled(tabled);
-        printing::print(b" ");
-        printing::print_rows(rows);
+        printing::print_tabled(rt, tabled);
+        printing::print(rt, b" ");
+        printing::print_rows(rt, rows);
         self
     }
 
-    fn screen(self) -> Kept {
+    fn screen(self, rt: &impl Print) -> Kept {
         let plan = self.plan;
-        printing::print_screened(verdict::screen::screen_plan(plan));
+        printing::print_screened(rt, verdict::screen::screen_plan(plan));
         self
     }
 
-    fn show(self) -> Kept {
+    fn show(self, rt: &impl Print) -> Kept {
         let plan = self.plan;
         let nodes = self.nodes;
         let history = self.history;
         let shown = run::show(plan, lines::front(&nodes, self.size), history);
-        printing::print_shown(shown);
+        printing::print_shown(rt, shown);
         self
     }
 
-    fn report(self, digits: &[u8]) -> Kept {
+    fn report(self, rt: &impl Print, digits: &[u8]) -> Kept {
         let plan = self.plan;
         let nodes = self.nodes;
         let history = self.history;
@@ -155,29 +155,29 @@ impl Kept {
         let reported = history.report(plan, lines::front(&nodes, self.size), mask);
         let answer = reported.answer;
         let handed_back = reported.history;
-        printing::print_judged(b"fine", answer);
-        printing::print(b" ");
-        printing::print_history(handed_back);
+        printing::print_judged(rt, b"fine", answer);
+        printing::print(rt, b" ");
+        printing::print_history(rt, handed_back);
         self.with_history(handed_back)
     }
 
     // One line, without its line feed.
-    pub fn carry_out(self, line: &[u8]) -> Kept {
+    pub fn carry_out(self, rt: &impl Print, line: &[u8]) -> Kept {
         let given = lines::behind(line, 2);
         match bytes::byte_or_zero(line, 0) {
-            b'#' => self.say(line),
-            b'p' => self.read_plan(given),
-            b'r' => self.with_plan(hex_bytes::record_in(given)).write_plan(),
-            b't' => self.read_tree(given),
-            b'b' => self.take_bytes(given).write_tree(),
-            b'c' => self.check(),
-            b'm' => self.decide(given),
-            b'd' => self.tabulate(given),
-            b's' => self.screen(),
-            b'h' => self.with_history(hex_bytes::history_in(given)).show(),
-            b'i' => self.show(),
-            b'o' => self.report(given),
-            _ => self.say(b"?"),
+            b'#' => self.say(rt, line),
+            b'p' => self.read_plan(rt, given),
+            b'r' => self.with_plan(hex_bytes::record_in(given)).write_plan(rt),
+            b't' => self.read_tree(rt, given),
+            b'b' => self.take_bytes(given).write_tree(rt),
+            b'c' => self.check(rt),
+            b'm' => self.decide(rt, given),
+            b'd' => self.tabulate(rt, given),
+            b's' => self.screen(rt),
+            b'h' => self.with_history(hex_bytes::history_in(given)).show(rt),
+            b'i' => self.show(rt),
+            b'o' => self.report(rt, given),
+            _ => self.say(rt, b"?"),
         }
     }
 }

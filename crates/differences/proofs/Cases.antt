@@ -2,7 +2,7 @@
 -- believe this file; a reader may like to.
 use mathlib.Core.Path.{◌≡◌, refl}
 use mathlib.Core.List.{List, [], ◌∷◌, ◌++◌}
-use mathlib.Core.Bool.{true, false}
+use mathlib.Core.Bool.{true}
 use Prim.Native.Nat.{ℕ, ◌-◌}
 use lib.IntN.{pos, negsuc}
 use lib.ListN.{length, replicate}

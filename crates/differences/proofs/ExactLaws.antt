@@ -15,13 +15,13 @@ use lib.Seq.{get_or-set_same, get_or-set_other}
 use Rattle.network.specs.Network.{Constraint, Network, Scenario, Schedule}
 use Rattle.network.specs.IsNetwork.{Each, IsNetwork}
 use Rattle.network.specs.Fixed.{ScheduleFor, Schedulable}
-use Rattle.network.specs.Differences.{difference, Largest}
+use Rattle.network.specs.Differences.{Largest}
 use Rattle.network.specs.Limits.{bias, limit_at, all_limited}
 use Rattle.network.proofs.Booleans.{leb_yes, leb_is}
 use Rattle.network.proofs.BelowLaws.{all_at, all_make}
 use Rattle.network.proofs.LimitLaws.{Square, Within, In16Bits, all_below_lem, all_in_16_bits, kept_within, within_kept}
 use Rattle.plan.proofs.SliceLaws.{length_listed, get_listed}
-use Rattle.differences.specs.Tabling.{unconstrained, passes, closed, no_negative_cycle}
+use Rattle.differences.specs.Tabling.{unconstrained, closed, no_negative_cycle}
 use Rattle.differences.specs.Ranges.{InRange}
 use Rattle.differences.proofs.IntegerLaws.{sub_le, sub_eq}
 use Rattle.differences.proofs.PassLaws.{NoNegativeCycle, Passing, passing}

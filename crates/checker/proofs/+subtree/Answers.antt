@@ -1,11 +1,10 @@
 -- The proof of `subtree`, which calls itself with fewer points left. Only the checker need believe this file.
 use mathlib.Core.Path.{ap, ◌≡◌, refl, sym, ◌∙◌}
 use mathlib.Core.Bool.{not}
-use Prim.Native.Nat.{ℕ, ◌+◌, ◌-◌, ◌*◌, ◌≤◌}
+use Prim.Native.Nat.{ℕ, ◌+◌, ◌*◌, ◌≤◌}
 use native.Mathlib.Omega.{arith}
 use borrow.Author.Rules.{rules}
 use lib.ListN.{length, drop, length-drop}
-use Rattle.network.specs.Mask.{count}
 use Rattle.network.proofs.Booleans.{denied, granted}
 use Rattle.plan.proofs.SliceLaws.{rest, rest_is}
 use Rattle.game.specs.declared.Position.{Position}

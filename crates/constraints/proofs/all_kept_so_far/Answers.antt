@@ -1,7 +1,6 @@
 -- `all_kept_so_far`: the constraints passed are kept, and one that is broken decides. Only the checker need believe this file.
 use mathlib.Core.Path.{ap, ◌≡◌, sym, ◌∙◌}
-use mathlib.Core.Bool.{not, true}
-use Prim.Native.Nat.{◌-◌}
+use mathlib.Core.Bool.{not}
 use native.Mathlib.Omega.{arith}
 use borrow.Author.Rules.{rules}
 use lib.ListN.{length}

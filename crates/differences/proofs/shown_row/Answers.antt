@@ -1,6 +1,5 @@
 -- `shown_row`: the entries passed, and zeros behind them. Only the checker need believe this file.
 use mathlib.Core.Path.{◌≡◌, ap, ◌∙◌}
-use Prim.Native.Nat.{◌-◌}
 use native.Mathlib.Omega.{arith}
 use borrow.Author.Rules.{rules}
 use Rattle.plan.proofs.SliceLaws.{filled_to, fill_start, fill_next, fill_end}

@@ -1,7 +1,7 @@
 -- `shown_rows`: the rows passed, and rows of zeros behind them. Only the checker need believe this file.
 use mathlib.Core.Path.{◌≡◌, ap, ◌∙◌}
 use mathlib.Core.List.{List}
-use Prim.Native.Nat.{ℕ, ◌-◌}
+use Prim.Native.Nat.{ℕ}
 use native.Mathlib.Omega.{arith}
 use borrow.Author.Rules.{rules}
 use Rattle.plan.proofs.SliceLaws.{filled_to, fill_start, fill_next, fill_end}

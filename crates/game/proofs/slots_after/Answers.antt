@@ -1,6 +1,5 @@
 -- `slots_after`: the slots passed are the new ones. Only the checker need believe this file.
 use mathlib.Core.Path.{◌≡◌}
-use Prim.Native.Nat.{◌-◌}
 use native.Mathlib.Omega.{arith}
 use borrow.Author.Rules.{rules}
 use Rattle.game.proofs.CodeLaws.{fill_start, fill_put, fill_skip, fill_end}

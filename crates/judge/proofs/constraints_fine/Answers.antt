@@ -1,7 +1,6 @@
 -- The invariant: the entries passed are fine. Only the checker need believe this file.
 use mathlib.Core.Path.{ap, ◌≡◌, refl, sym}
-use mathlib.Core.Bool.{not, true}
-use Prim.Native.Nat.{◌-◌}
+use mathlib.Core.Bool.{not}
 use native.Mathlib.Omega.{arith}
 use borrow.Author.Rules.{rules}
 use Rattle.network.specs.Mask.{all_below}

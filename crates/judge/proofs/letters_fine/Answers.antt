@@ -1,13 +1,12 @@
 -- The invariant: the entries passed are fine. Only the checker need believe this file.
 use mathlib.Core.Path.{ap, ◌≡◌, sym}
-use mathlib.Core.Bool.{not, true}
-use Prim.Native.Nat.{◌-◌}
+use mathlib.Core.Bool.{not}
 use native.Mathlib.Omega.{arith}
 use borrow.Author.Rules.{rules}
 use Rattle.network.specs.Mask.{all_below}
 use Rattle.network.proofs.Booleans.{denied, granted}
 use Rattle.network.proofs.BelowLaws.{all_next, all_fails}
-use Rattle.judge.specs.Judge.{letter_entry, letters_fine}
+use Rattle.judge.specs.Judge.{letters_fine}
 use Rattle.judge.proofs.letters_fine.Goals as goal
 
 pub loop-i-init : goal.loop-i-init

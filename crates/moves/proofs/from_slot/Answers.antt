@@ -1,6 +1,6 @@
 -- `from_slot`: the slots passed have no point ready. Only the checker need believe this file.
 use mathlib.Core.Path.{◌≡◌, sym, ap, ◌∙◌}
-use Prim.Native.Nat.{ℕ, ◌-◌, ◌≤◌}
+use Prim.Native.Nat.{ℕ, ◌≤◌}
 use native.Mathlib.Omega.{arith}
 use Rattle.masks.specs.Next.{next_inside}
 use Rattle.moves.specs.declared.Step.TheVariants as step

@@ -1,6 +1,5 @@
 -- `ready`: each turn adds one point below. Only the checker need believe this file.
 use mathlib.Core.Bool.{◌&&◌}
-use Prim.Native.Nat.{◌-◌}
 use lib.Dec.{leb}
 use Rattle.network.specs.Mask.{bit}
 use Rattle.network.specs.Network.{slots_in}

@@ -1,7 +1,6 @@
 -- `are_slots`: those passed are below 255. Only the checker need believe this file.
 use mathlib.Core.Path.{◌≡◌, refl}
 use mathlib.Core.Logic.{by_cases}
-use Prim.Native.Nat.{◌-◌}
 use native.Mathlib.Omega.{arith}
 use native.Mathlib.Decide.{dec_lt}
 use Rattle.network.proofs.Booleans.{clash}

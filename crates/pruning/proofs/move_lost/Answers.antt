@@ -1,7 +1,7 @@
 -- `move_lost`: an outcome after which the state is lost decides. Only the checker need believe this file.
 use mathlib.Core.Path.{◌≡◌, refl, sym, ap, ◌∙◌}
 use mathlib.Core.Bool.{true}
-use Prim.Native.Nat.{ℕ, ◌-◌}
+use Prim.Native.Nat.{ℕ}
 use borrow.Author.Rules.{rules}
 use lib.ListN.{length}
 use Rattle.network.specs.Mask.{bit, submask}

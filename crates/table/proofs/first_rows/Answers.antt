@@ -1,5 +1,5 @@
 -- `first_rows`: one setting after the other. Only the checker need believe this file.
-use Prim.Native.Nat.{◌-◌, ◌<◌}
+use Prim.Native.Nat.{◌<◌}
 use native.Mathlib.Omega.{arith}
 use lib.Bits.{or_lt}
 use Rattle.table.specs.Table.{Within, unknown, Tighter}

@@ -1,6 +1,6 @@
 -- `first_rows`: one setting after the other. Only the checker need believe this file.
 use Prim.Native.Nat.{◌-◌, ◌<◌}
-use Rattle.table.specs.Table.{Within, unknown, Tighter}
+use Rattle.table.specs.Table.{Within, Tighter}
 use Rattle.table.proofs.first_rows.Given as goal
 
 abbrev pub invariant-loop-u : goal.invariant-loop-u

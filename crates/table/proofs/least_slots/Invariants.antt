@@ -1,7 +1,7 @@
 -- `least_slots`: the settings passed have no earlier slots. Only the checker need believe this file.
 use mathlib.Core.List.{List}
 use Prim.Native.Nat.{ℕ, ◌-◌, ◌<◌}
-use Rattle.table.specs.Table.{Within, unknown}
+use Rattle.table.specs.Table.{Within}
 use Rattle.table.proofs.TableLaws.{Before, BelowAt}
 use Rattle.table.proofs.least_slots.Given as goal
 

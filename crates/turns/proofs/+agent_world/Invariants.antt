@@ -3,7 +3,6 @@ use mathlib.Core.Path.{◌≡◌}
 use Prim.Native.Nat.{◌+◌, ◌-◌, ◌*◌}
 use lib.ListN.{length}
 use Rattle.network.specs.Mask.{bit, count}
-use Rattle.moves.specs.declared.Step.TheVariants as step
 use Rattle.moves.proofs.OrderLaws.{moves_ahead}
 use Rattle.turns.proofs.PlaceLaws.{Trying, Answering}
 use Rattle.turns.proofs.+agent_world.Given as goal

@@ -1,6 +1,5 @@
 -- `least_slots`: the slots climb, and where a round changes nothing they are the least. Only the checker need believe this file.
 use mathlib.Core.Path.{sym, ◌∙◌}
-use Prim.Native.Nat.{◌-◌}
 use Rattle.network.specs.Mask.{bit}
 use Rattle.constraints.specs.Rows.{rows_say}
 use Rattle.verdict.proofs.CodeLaws.{climbing_start, by_rests, by_next, by_less}

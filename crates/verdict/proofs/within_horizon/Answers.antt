@@ -1,6 +1,5 @@
 -- `within_horizon`: the points passed are within the horizon, and one that is not decides. Only the checker need believe this file.
 use mathlib.Core.Path.{◌≡◌, sym}
-use Prim.Native.Nat.{◌-◌}
 use native.Mathlib.Omega.{arith}
 use Rattle.network.proofs.Booleans.{leb_yes, leb_no}
 use Rattle.network.proofs.BelowLaws.{all_start, all_next, all_fails}

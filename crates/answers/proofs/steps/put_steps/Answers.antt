@@ -1,7 +1,6 @@
 -- The invariant: what was stored are the bytes of the steps passed. Only the checker need believe this file.
 use borrow.Author.Rules.{rules}
 use mathlib.Core.Path.{◌≡◌, refl, ◌∙◌}
-use Prim.Native.Nat.{◌-◌}
 use native.Mathlib.Omega.{arith}
 use lib.ListN.{get_or}
 use Rattle.network.specs.Mask.{join_below}

@@ -1,6 +1,6 @@
 -- `all_limited`: the constraints looked at so far are the plan's first ones. Only the checker need believe this file.
 use mathlib.Core.Path.{◌≡◌, sym, ap, ◌∙◌}
-use Prim.Native.Nat.{ℕ, ◌-◌}
+use Prim.Native.Nat.{ℕ}
 use native.Mathlib.Omega.{arith}
 use Rattle.network.specs.Mask.{bit}
 use Rattle.network.specs.Limits.{limited, all_limited}

@@ -1,6 +1,5 @@
 -- `raise_in`: the slots are as after the turns of the constraints passed. Only the checker need believe this file.
 use mathlib.Core.Path.{◌≡◌, refl, sym, ap, ◌∙◌}
-use Prim.Native.Nat.{◌-◌}
 use native.Mathlib.Omega.{arith}
 use lib.ListN.{length}
 use Rattle.network.specs.Mask.{bit}

@@ -1,7 +1,5 @@
 -- `same_slots`: the slots passed are the same, and one that differs decides. Only the checker need believe this file.
 use mathlib.Core.Path.{◌≡◌, sym}
-use mathlib.Core.Bool.{true}
-use Prim.Native.Nat.{◌-◌}
 use native.Mathlib.Omega.{arith}
 use Rattle.network.specs.Network.{slots_in}
 use Rattle.network.proofs.Booleans.{eqb_yes, eqb_no}

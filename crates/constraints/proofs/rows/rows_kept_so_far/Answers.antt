@@ -1,11 +1,9 @@
 -- `rows_kept_so_far`: the constraints passed are kept, and one that is broken decides. Only the checker need believe this file.
 use mathlib.Core.Path.{ap, ◌≡◌, sym, ◌∙◌}
-use mathlib.Core.Bool.{not, true}
-use Prim.Native.Nat.{◌-◌}
+use mathlib.Core.Bool.{not}
 use native.Mathlib.Omega.{arith}
 use Rattle.network.specs.Mask.{bit}
 use Rattle.network.specs.Network.{slots_in}
-use Rattle.network.specs.SoFar.{kept_so_far}
 use Rattle.network.proofs.Booleans.{denied, granted}
 use Rattle.network.proofs.BelowLaws.{all_start, all_next, all_fails}
 use Rattle.constraints.specs.Rows.{row_at}

@@ -1,6 +1,6 @@
 -- `rows_of`: the rows filled so far are the plan's constraints. Only the checker need believe this file.
 use mathlib.Core.Path.{◌≡◌, subst}
-use Prim.Native.Nat.{ℕ, ◌-◌}
+use Prim.Native.Nat.{ℕ}
 use native.Mathlib.Omega.{arith}
 use lib.ListN.{length-replicate}
 use Rattle.constraints.proofs.RowLaws.{Filled, filled_next, filled_says}

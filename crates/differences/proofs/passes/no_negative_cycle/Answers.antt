@@ -1,6 +1,5 @@
 -- `no_negative_cycle`: the points passed are not before themselves, and one that is decides. Only the checker need believe this file.
 use mathlib.Core.Path.{◌≡◌, sym}
-use Prim.Native.Nat.{◌-◌}
 use native.Mathlib.Omega.{arith}
 use borrow.Author.Rules.{rules}
 use Rattle.network.specs.Limits.{bias, limit_at}

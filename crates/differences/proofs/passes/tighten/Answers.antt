@@ -1,6 +1,5 @@
 -- `tighten`: the rows passed, and rows of zeros behind them. Only the checker need believe this file.
 use mathlib.Core.Path.{◌≡◌, ap, ◌∙◌}
-use Prim.Native.Nat.{◌-◌}
 use native.Mathlib.Omega.{arith}
 use lib.ListN.{replicate}
 use borrow.Author.Rules.{rules}

@@ -1,6 +1,5 @@
 -- `unconstrained`: the rows passed, and rows of zeros behind them. Only the checker need believe this file.
 use mathlib.Core.Path.{◌≡◌, refl, ap, ◌∙◌}
-use Prim.Native.Nat.{◌-◌}
 use native.Mathlib.Omega.{arith}
 use borrow.Author.Rules.{rules}
 use lib.ListN.{replicate}

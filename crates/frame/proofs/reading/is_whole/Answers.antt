@@ -1,12 +1,9 @@
 -- The invariant: the kind is the one asked for, and every byte passed stands there. Only the checker need believe this file.
 use mathlib.Core.Path.{◌≡◌, sym}
-use mathlib.Core.Bool.{true}
-use Prim.Native.Nat.{◌-◌}
 use native.Mathlib.Omega.{arith}
 use borrow.Author.Rules.{rules}
 use borrow.Author.Tests.{lt-ltb, eq-eqb, ne_eqb}
 use Rattle.network.proofs.BelowLaws.{all_start, all_next}
-use Rattle.frame.specs.ReadFrame.{byte_at}
 use Rattle.frame.proofs.CodeLaws.{other_kind, no_byte, up_to_feed}
 use Rattle.frame.proofs.reading.is_whole.Goals as goal
 

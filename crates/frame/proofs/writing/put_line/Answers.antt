@@ -1,6 +1,5 @@
 -- The invariant: what is left to store from here makes the whole frame. Only the checker need believe this file.
 use mathlib.Core.Path.{sym, ◌∙◌}
-use Prim.Native.Nat.{◌-◌}
 use borrow.Author.Rules.{rules}
 use Rattle.frame.proofs.CodeLaws.{put_next, put_feed}
 use Rattle.frame.proofs.writing.put_line.Goals as goal

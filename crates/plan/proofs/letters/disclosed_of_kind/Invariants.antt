@@ -1,5 +1,5 @@
 -- `disclosed_of_kind`: each turn adds one letter below; those that are not used have no bit. Only the checker need believe this file.
-use Prim.Native.Nat.{◌-◌, ◌≤◌}
+use Prim.Native.Nat.{◌≤◌}
 use Rattle.plan.proofs.LetterLaws.{MaskFrom, letters_only, disclosed_by}
 use Rattle.plan.proofs.letters.disclosed_of_kind.Given as goal
 

@@ -1,6 +1,5 @@
 -- The invariant: what is left to read from here says what the whole says. Only the checker need believe this file.
 use mathlib.Core.Path.{sym, ap, ◌∙◌}
-use Prim.Native.Nat.{◌-◌}
 use native.Mathlib.Nat.{sub-zero}
 use borrow.Author.Rules.{rules}
 use Rattle.plan.specs.Refusal.{judged_number}

@@ -1,6 +1,5 @@
 -- `disclosing`: the entries passed are the letters' points. Only the checker need believe this file.
 use mathlib.Core.Path.{◌≡◌, refl}
-use Prim.Native.Nat.{◌-◌}
 use native.Mathlib.Omega.{arith}
 use Rattle.game.proofs.CodeLaws.{fill_start, fill_put, fill_end}
 use borrow.Author.Rules.{rules}

@@ -1,7 +1,7 @@
 -- `own`: letter by letter. Only the checker need believe this file.
 use mathlib.Core.Path.{refl, sym, subst}
 use mathlib.Core.List.{List}
-use Prim.Native.Nat.{ℕ, ◌+◌, ◌-◌}
+use Prim.Native.Nat.{ℕ, ◌+◌}
 use native.Mathlib.Omega.{arith}
 use Rattle.plan.proofs.SliceLaws.{all_same}
 use Rattle.pruning.proofs.OwnLaws.{Gathered, gathered_start, gathered_next, gathered_all}

@@ -1,6 +1,5 @@
 -- The invariant: what was stored are the bytes of the entries passed. Only the checker need believe this file.
 use mathlib.Core.Path.{◌≡◌, refl, ◌∙◌}
-use Prim.Native.Nat.{◌-◌}
 use native.Mathlib.Omega.{arith}
 use borrow.Author.Rules.{rules}
 use Rattle.network.specs.Mask.{join_below}

@@ -1,7 +1,6 @@
 -- By the laws of histories: the masks passed so far are zero. Only the checker need believe this file.
 use mathlib.Core.Path.{◌≡◌, sym}
 use mathlib.Core.Logic.{by_cases}
-use Prim.Native.Nat.{◌-◌}
 use native.Mathlib.Omega.{arith}
 use native.Mathlib.Decide.{dec_lt}
 use Rattle.run.proofs.HistoryLaws.{fine_made, count_faulty, mask_faulty}

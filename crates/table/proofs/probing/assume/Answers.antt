@@ -1,7 +1,7 @@
 -- `assume`: one setting after the other. Only the checker need believe this file.
 use mathlib.Core.Path.{sym, subst}
 use mathlib.Core.List.{List}
-use Prim.Native.Nat.{ℕ, ◌-◌, ◌<◌}
+use Prim.Native.Nat.{ℕ, ◌<◌}
 use native.Mathlib.Omega.{arith}
 use Rattle.table.specs.Table.{Within, Assuming}
 use Rattle.table.proofs.TableLaws.{within_none, go_on, assume_nothing, assume_strike}

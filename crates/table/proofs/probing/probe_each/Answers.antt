@@ -1,5 +1,5 @@
 -- `probe_each`: the table tightens with each setting. Only the checker need believe this file.
-use Prim.Native.Nat.{◌-◌, ◌<◌}
+use Prim.Native.Nat.{◌<◌}
 use native.Mathlib.Omega.{arith}
 use lib.Bits.{or_lt}
 use Rattle.table.specs.Table.{Within, unknown}

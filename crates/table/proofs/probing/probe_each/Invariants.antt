@@ -1,6 +1,6 @@
 -- `probe_each`: the table tightens with each setting. Only the checker need believe this file.
 use Prim.Native.Nat.{◌-◌, ◌<◌}
-use Rattle.table.specs.Table.{Within, unknown, Tighter}
+use Rattle.table.specs.Table.{Within, Tighter}
 use Rattle.table.proofs.probing.probe_each.Given as goal
 
 abbrev pub invariant-loop-u : goal.invariant-loop-u

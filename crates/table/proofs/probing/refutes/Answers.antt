@@ -1,7 +1,6 @@
 -- `refutes`: the table tightens with each round of probes. Only the checker need believe this file.
 use mathlib.Core.Path.{ap, refl}
 use mathlib.Core.Bool.{not}
-use Prim.Native.Nat.{◌-◌}
 use Rattle.network.proofs.Booleans.{clash, not_true}
 use Rattle.table.proofs.TableLaws.{same_table, join, lost_before}
 use Rattle.table.proofs.probing.refutes.Goals as goal

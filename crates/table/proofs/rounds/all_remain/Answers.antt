@@ -1,6 +1,6 @@
 -- `all_remain`: a scenario without a setting decides. Only the checker need believe this file.
 use mathlib.Core.Path.{refl, subst}
-use Prim.Native.Nat.{◌-◌, ◌<◌}
+use Prim.Native.Nat.{◌<◌}
 use native.Mathlib.Omega.{arith}
 use Rattle.network.proofs.Booleans.{clash}
 use Rattle.table.specs.Table.{Within, AllStruck}

@@ -1,7 +1,7 @@
 -- `near`: the conditions passed lead to none that moved. Only the checker need believe this file.
 use mathlib.Core.Path.{◌≡◌, refl, sym, ap, ◌∙◌}
 use mathlib.Core.Bool.{false, and-false}
-use Prim.Native.Nat.{ℕ, ◌-◌, ◌%◌, ◌^◌}
+use Prim.Native.Nat.{ℕ, ◌%◌, ◌^◌}
 use native.Mathlib.Omega.{arith}
 use lib.Bits.{bit_xor}
 use Rattle.network.specs.Mask.{bit}

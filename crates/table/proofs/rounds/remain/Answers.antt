@@ -2,9 +2,9 @@
 use mathlib.Core.Path.{◌≡◌, sym, ◌∙◌, subst}
 use mathlib.Core.Bool.{true}
 use mathlib.Core.List.{List}
-use Prim.Native.Nat.{ℕ, ◌-◌, ◌<◌}
+use Prim.Native.Nat.{ℕ, ◌<◌}
 use native.Mathlib.Omega.{arith}
-use Rattle.network.proofs.Booleans.{not_false, eqb_is}
+use Rattle.network.proofs.Booleans.{eqb_is}
 use Rattle.masks.proofs.NextLaws.{Next}
 use Rattle.table.specs.declared.View.{View}
 use Rattle.table.specs.Table.{Within, set_to, entry}

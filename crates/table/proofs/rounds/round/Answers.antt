@@ -1,5 +1,5 @@
 -- `round`: the table tightens with each scenario. Only the checker need believe this file.
-use Prim.Native.Nat.{◌-◌, ◌<◌}
+use Prim.Native.Nat.{◌<◌}
 use native.Mathlib.Omega.{arith}
 use Rattle.table.specs.Table.{Within}
 use Rattle.table.proofs.TableLaws.{within_none, go_on, same_table, join}

@@ -1,6 +1,5 @@
 -- `at_rest`: each round of the raise moves slots that are no later than a win to such slots. Only the checker need believe this file.
 use mathlib.Core.Path.{◌≡◌, sym, ap, ◌∙◌, subst}
-use Prim.Native.Nat.{◌-◌}
 use lib.ListN.{length}
 use Rattle.network.specs.Mask.{bit}
 use Rattle.network.proofs.RaiseLaws.{turns_length}

@@ -1,6 +1,5 @@
 -- `flip_conditions`: the table tightens with each. Only the checker need believe this file.
 use mathlib.Core.Path.{sym, ◌∙◌, subst}
-use Prim.Native.Nat.{◌-◌}
 use Rattle.table.specs.Table.{Tighter}
 use Rattle.table.proofs.TableLaws.{same_table, join}
 use borrow.Author.Rules.{rules}

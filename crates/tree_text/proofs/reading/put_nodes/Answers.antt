@@ -1,6 +1,5 @@
 -- The invariant: what was stored are the bytes of the nodes passed. Only the checker need believe this file.
 use mathlib.Core.Path.{◌≡◌, ◌∙◌}
-use Prim.Native.Nat.{◌-◌}
 use native.Mathlib.Omega.{arith}
 use Rattle.network.specs.Mask.{join_below}
 use Rattle.tree_text.proofs.CodeLaws.{node_put}

@@ -1,6 +1,6 @@
 -- The invariant: what is left to read from here says what the whole says. Only the checker need believe this file.
 use mathlib.Core.Path.{sym, ap, ◌∙◌}
-use Prim.Native.Nat.{ℕ, ◌-◌}
+use Prim.Native.Nat.{ℕ}
 use native.Mathlib.Nat.{sub-zero}
 use borrow.Author.Rules.{rules}
 use Rattle.plan.specs.Answer.{Answer}

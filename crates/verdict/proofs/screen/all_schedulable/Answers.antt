@@ -1,7 +1,7 @@
 -- `all_schedulable`: the settings passed have schedules, and one that has none decides. Only the checker need believe this file.
 use mathlib.Core.Path.{ap, ◌≡◌, refl, sym}
-use mathlib.Core.Bool.{not, true}
-use Prim.Native.Nat.{◌-◌, ◌^◌}
+use mathlib.Core.Bool.{not}
+use Prim.Native.Nat.{◌^◌}
 use native.Mathlib.Omega.{arith}
 use Rattle.network.proofs.Booleans.{denied, granted}
 use Rattle.network.proofs.MachineLaws.{one_shifted}
