@@ -31,7 +31,7 @@ impl Error {
             Kind::NotAdmitted
         } else if NAMES.iter().any(|n| first.contains(n)) {
             Kind::Name
-        } else if said.contains(BROKEN) || computed(&said) || literals(&said) {
+        } else if BROKEN.iter().any(|b| said.contains(b)) || computed(&said) || literals(&said) {
             Kind::Fact
         } else if DIFFER.iter().any(|d| said.contains(d)) {
             Kind::Differ
@@ -67,10 +67,12 @@ fn is_measure(goal: &str) -> bool {
 const RESTS: [&str; 2] = ["was not admitted", "which was rejected, w"];
 
 /// Its words for an inequality that fails.
-const BROKEN: &str = "does not follow from what it read";
+const BROKEN: [&str; 2] = ["does not follow from what it read", "`grind`: the goal does not follow"];
 
-/// Its words for a statement that is not the one asked for.
-const DIFFER: [&str; 7] = [
+/// Its words for a statement that is not the one asked for, or of which no proof was found where there was one.
+const DIFFER: [&str; 9] = [
+    "`search`: no proof of `",
+    "`grind` found no proof",
     "the two types",
     "the two values",
     "but this has type",

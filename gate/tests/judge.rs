@@ -88,6 +88,16 @@ fn an_inequality_that_fails_counts() {
 }
 
 #[test]
+fn an_answer_whose_search_finds_no_proof_counts() {
+    let search = "./proofs/lesser/Answers.antt:29:90: error: `returns`: `search`: no proof of `Prim.Native.Nat.◌≤◌ 11 \
+                  (lib.ListN.length c.args.out.now)`\n  was found. It stopped 5 lemmas deep, with lemmas still to try";
+    assert_eq!(says(body(), &log(&[search, NOT_PROVED])), Ok("`returns` of `lesser`".to_string()));
+    let grind =
+        "./proofs/lesser/Answers.antt:7:9: error: `returns`: `grind` found no proof, and could not check its values";
+    assert!(says(body(), &log(&[grind, NOT_PROVED])).is_ok());
+}
+
+#[test]
 fn a_goal_that_the_search_does_not_prove_counts() {
     let line = format!("{NO_PROOF} `returns`");
     assert_eq!(says(body(), &log(&[GAVE_UP, &line])), Ok("`returns` of `lesser`".to_string()));
