@@ -90,6 +90,7 @@ fn among(error: &Error, taken: &[Kind]) -> Result<(), String> {
     }
 }
 
+/// The beginning of an error, in one line.
 fn short(error: &Error) -> String {
-    error.text.chars().take(300).collect()
+    error.text.split_whitespace().collect::<Vec<_>>().join(" ").chars().take(300).collect()
 }
