@@ -97,10 +97,14 @@ const NAMES: [&str; 11] = [
     "error[",
 ];
 
-/// A proof by computing: both sides were to be the same, `but this has type A ≡ A`.
+/// A proof by computing: both sides were to be the same, `but this has type A ≡ A`, or of numerals `◌≡◌ {A = ℕ} A A`.
 fn computed(said: &str) -> bool {
     let Some(found) = quoted(said, "but this has type ") else { return false };
-    found.match_indices(" ≡ ").any(|(at, sign)| found[..at].trim() == found[at + sign.len()..].trim())
+    let same = |text: &str, sign: &str| {
+        text.match_indices(sign).any(|(at, _)| text[..at].trim() == text[at + sign.len()..].trim())
+    };
+    let behind = found.strip_prefix("◌≡◌ {").and_then(|rest| rest.split_once("} "));
+    same(found, " ≡ ") || behind.is_some_and(|(_, sides)| same(sides, " "))
 }
 
 /// Where the two sides first differ, one has one value and the other has another.

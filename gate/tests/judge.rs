@@ -228,6 +228,10 @@ fn a_definition_must_name_what_it_makes_false() {
     refused(named(), &log(&[&case.replace("one_least", "other")]), "nothing is said against");
     refused(named(), &log(&[rests]), "only rests on");
     refused(named(), &log(&[case]), "no longer fits");
+    let numerals = case.replace("but this has type `1 ≡ y`", "but this has type `◌≡◌ {A = ℕ} 0 0`");
+    assert_eq!(says(named(), &log(&[&numerals])), Ok("`one_least`".to_string()));
+    let other = case.replace("but this has type `1 ≡ y`", "but this has type `◌≡◌ {A = ℕ} 0 7`");
+    assert!(says(named(), &log(&[&other])).is_err());
     let computed = case.replace("but this has type `1 ≡ y`", "but this has type `least ≡ least`");
     assert_eq!(says(named(), &log(&[&computed])), Ok("`one_least`".to_string()));
 }
