@@ -75,6 +75,13 @@ fn is_part(c: char) -> bool {
     c.is_alphanumeric() || c == '_' || c == '\''
 }
 
+/// Whether a name ends here, or with a number behind a dash.
+fn ends(behind: &str) -> bool {
+    let rest = behind.strip_prefix('-').map_or(behind, |rest| rest.trim_start_matches(|c: char| c.is_ascii_digit()));
+    let counted = rest.len() < behind.len().saturating_sub(1);
+    !rest.starts_with(|c| is_part(c) || c == '-') && (counted || !behind.starts_with('-'))
+}
+
 fn named(text: &str, name: &str) -> bool {
     text.match_indices(name).any(|(at, _)| !text[at + name.len()..].starts_with(|c| is_part(c) || c == '-'))
 }
@@ -84,7 +91,7 @@ fn renamed(text: &str, old: &str, new: &str) -> String {
     let (mut done, mut rest) = (String::new(), text);
     while let Some(at) = rest.find(old) {
         let (before, behind) = (&rest[..at], &rest[at + old.len()..]);
-        let own = before.ends_with('-') && !behind.starts_with(is_part);
+        let own = ["if-", "then-", "else-", "Then-", "Else-"].iter().any(|way| before.ends_with(way)) && ends(behind);
         done.push_str(before);
         done.push_str(if own { new } else { old });
         rest = behind;

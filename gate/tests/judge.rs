@@ -305,6 +305,9 @@ fn answers_are_carried_to_the_new_names_of_their_goals() {
         "pub returns-then-i-ge7 : goal.returns-then-i-ge7\nreturns-then-i-ge7 c = f (g c).Then-i-ge7 c.if-i-ge80\n\
                   pub returns : goal.returns\n";
     assert_eq!(found[0].apply(answers), wanted);
+    // a longer name that has the condition in it stays
+    let longer = "c.if-i-ge8.true c.slot-i-ge8 c.Then-i-ge8-j c.returns-then-i-ge8-2";
+    assert_eq!(found[0].apply(longer), "c.if-i-ge7.true c.slot-i-ge8 c.Then-i-ge8-j c.returns-then-i-ge7-2");
     // a name that has its answer already is not taken, and another error asks for none
     assert_eq!(carried(&log, &errors(&log), &|_| wanted.to_string()), vec![]);
     assert_eq!(carried(DIFFER, &errors(DIFFER), &|_| answers.to_string()), vec![]);
