@@ -2,8 +2,7 @@
 use mathlib.Core.Path.{◌≡◌, sym, ap, ◌∙◌}
 use mathlib.Core.Logic.{◌↔◌}
 use Rattle.plan.specs.declared.Plan.{Plan}
-use Rattle.plan.specs.declared.Judged.{Judged}
-use Rattle.plan.specs.declared.Judged.TheVariants as judged
+use Rattle.std.specs.Prelude.{Result, Ok, Err}
 use Rattle.plan.specs.declared.Refusal.{Refusal}
 use Rattle.plan.specs.declared.Refusal.TheVariants as refusal
 use Rattle.plan.specs.Refusal.{refusal_number, judged_number}
@@ -34,22 +33,22 @@ module _ (p : Plan) where
 
 -- ---- the same of what `judge` hands back, by its promise
 
-module _ (p : Plan) (r : Judged) (promise : judged_number r ≡ plan_fault p) where
-  pub judged_fine_exactly : (r ≡ judged.Fine) ↔ WellFormed p
+module _ (p : Plan) (r : Result (Unit {0}) Refusal) (promise : judged_number r ≡ plan_fault p) where
+  pub judged_fine_exactly : (r ≡ Ok tt) ↔ WellFormed p
   judged_fine_exactly =
       (λ f. (laws.fine_exactly p).0 (sym promise ∙ ap judged_number f), λ wf. fine_is r (promise ∙ (laws.fine_exactly p).1 wf))
 
   -- an answer that has a refusal's number is that refusal
-  number_exactly : {A : Type 0} (k : Refusal) → ((plan_fault p ≡ refusal_number k) ↔ A) → (r ≡ judged.Refused k) ↔ A
+  number_exactly : {A : Type 0} (k : Refusal) → ((plan_fault p ≡ refusal_number k) ↔ A) → (r ≡ Err k) ↔ A
   number_exactly k f =
       (λ e. f.0 (sym promise ∙ ap judged_number e), λ a. refused_is r k (promise ∙ f.1 a))
 
-  pub judged_head_exactly : (r ≡ judged.Refused refusal.Head) ↔ (¬ FineHead p)
+  pub judged_head_exactly : (r ≡ Err refusal.Head) ↔ (¬ FineHead p)
   judged_head_exactly = number_exactly refusal.Head (laws.head_refused_exactly p)
 
-  pub judged_letters_exactly : (r ≡ judged.Refused refusal.Letters) ↔ (FineHead p × ¬ FineLetters p)
+  pub judged_letters_exactly : (r ≡ Err refusal.Letters) ↔ (FineHead p × ¬ FineLetters p)
   judged_letters_exactly = number_exactly refusal.Letters (laws.letters_refused_exactly p)
 
   pub judged_constraints_exactly :
-      (r ≡ judged.Refused refusal.Constraints) ↔ (FineHead p × FineLetters p × ¬ FineConstraints p)
+      (r ≡ Err refusal.Constraints) ↔ (FineHead p × FineLetters p × ¬ FineConstraints p)
   judged_constraints_exactly = number_exactly refusal.Constraints (laws.constraints_refused_exactly p)

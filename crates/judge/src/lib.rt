@@ -6,7 +6,7 @@ ghost use Rattle.std.specs.Prelude.{◌≡◌, cond};
 ghost use Rattle.plan.specs.Refusal.{judged_number};
 ghost use Rattle.judge.specs.Judge.{head_fine, taken_before, letter_fine, letter_unused, letter_entry, letters_fine, bound_fine, constraint_fine, constraint_unused, constraints_fine, plan_fault};
 
-use plan::{Constraint, Judged, Letter, Plan, Refusal, entries};
+use plan::{Constraint, Letter, Plan, Refusal, entries};
 
 // Whether the four head values are in their ranges.
 pub fn head_fine(horizon: u8, points: u8, letters: u8, constraints: u8) -> bool
@@ -24,13 +24,11 @@ pub fn head_fine(horizon: u8, points: u8, letters: u8, constraints: u8) -> bool
 fn taken_before(plan: Plan, i: u8, point: u8) -> bool
     ensures { result ≡ taken_before plan i point }
 {
-    let mut k: u8 = 0;
-    while k < i {
+    for k in 0..i {
         let l = entries::letter_at(plan, k);
         if l.point == point {
             return true;
         }
-        k += 1;
     }
     false
 }
@@ -45,7 +43,7 @@ pub fn letter_fine(plan: Plan, i: u8, l: Letter) -> bool
 fn letter_unused(l: Letter) -> bool
     ensures { result ≡ letter_unused l }
 {
-    (l.point == 0) & (l.kind == 0)
+    l == Letter::default()
 }
 
 // Whether entry i of the letters is fine where it is used, and zero where not.
@@ -62,12 +60,10 @@ fn letter_entry(plan: Plan, i: u8) -> bool
 fn letters_fine(plan: Plan) -> bool
     ensures { result ≡ letters_fine plan }
 {
-    let mut i: u8 = 0;
-    while i < 6 {
+    for i in 0..6 {
         if !letter_entry(plan, i) {
             return false;
         }
-        i += 1;
     }
     true
 }
@@ -100,7 +96,7 @@ pub fn constraint_fine(plan: Plan, c: Constraint) -> bool
 fn constraint_unused(c: Constraint) -> bool
     ensures { result ≡ constraint_unused c }
 {
-    (c.from == 0) & (c.to == 0) & (c.bound == 0) & (c.need == 0) & (c.truth == 0)
+    c == Constraint::default()
 }
 
 // Whether the entry c is fine where it is used, and zero where not. The record itself would be copied for every entry.
@@ -116,29 +112,27 @@ fn constraint_entry(points: u8, letters: u8, used: bool, c: Constraint) -> bool
 fn constraints_fine(plan: Plan) -> bool
     ensures { result ≡ constraints_fine plan }
 {
-    let mut j: u8 = 0;
-    while j < 64 {
+    for j in 0..64u8 {
         let c = plan.constraint[j as usize];
         if !constraint_entry(plan.points, plan.letters, j < plan.constraints, c) {
             return false;
         }
-        j += 1;
     }
     true
 }
 
 // The first fault of a plan record: 2, 3, 4, or fine.
-pub fn judge(plan: Plan) -> Judged
+pub fn judge(plan: Plan) -> Result<(), Refusal>
     ensures { judged_number result ≡ plan_fault plan }
 {
     if !head_fine(plan.horizon, plan.points, plan.letters, plan.constraints) {
-        return Judged::Refused(Refusal::Head);
+        return Err(Refusal::Head);
     }
     if !letters_fine(plan) {
-        return Judged::Refused(Refusal::Letters);
+        return Err(Refusal::Letters);
     }
     if !constraints_fine(plan) {
-        return Judged::Refused(Refusal::Constraints);
+        return Err(Refusal::Constraints);
     }
-    Judged::Fine
+    Ok(())
 }

@@ -40,7 +40,7 @@ pub fn size(mask: u8) -> u32
     u8::count_ones(mask)
 }
 
-// The lowest member; 8 where there is none.
+// The lowest member; 8 where there is none, as `trailing_zeros` has it, which document 01 asks for.
 pub fn lowest(mask: u8) -> u32
     ensures { result ≡ first_below 8 (bit mask) }
 {
@@ -55,7 +55,7 @@ pub fn submasks(set: u8) -> u16
 }
 
 // Of the masks inside a set, number k: the members are the binary digits of k, the lowest member least. This is document 01's order of
-// outcomes.
+// outcomes. It takes member after member and counts no index.
 pub fn numbered(set: u8, k: u16) -> u8
     ensures { result ≡ submask 8 (bit set) k }
 {

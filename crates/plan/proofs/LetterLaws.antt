@@ -1,19 +1,20 @@
 -- Laws of masks of letters: one more letter below, the letters of both masks; of kinds of letters. Only the checker need believe this file.
 use mathlib.Core.Path.{◌≡◌, refl, sym, ap, ◌∙◌}
 use mathlib.Core.Logic.{by_cases}
-use mathlib.Core.Bool.{Bool, true, false, not, ◌&&◌}
+use mathlib.Core.Bool.{Bool, true, false, ◌&&◌}
 use mathlib.Core.List.{List, []}
 use Prim.Native.Nat.{ℕ, suc, ◌+◌, ◌-◌, ◌*◌, ◌^◌, ◌≤◌, ◌<◌}
 use native.Mathlib.Omega.{arith}
 use native.Mathlib.Nat.{add-zero}
 use native.Mathlib.Decide.{dec_lt}
 use lib.Pow.{pow_mono}
+use mir.Val.{bool_byte}
 use Rattle.network.specs.Mask.{bit, digit, mask}
-use Rattle.network.proofs.Booleans.{ltb_yes, ltb_no, eqb_no}
+use Rattle.network.proofs.Booleans.{ltb_no}
 use Rattle.network.proofs.MaskLaws.{mask_cong, mask_lt, bit_mask, bit_mask_above, no_bits}
 use Rattle.plan.specs.declared.Letter.{Letter}
 use Rattle.plan.specs.declared.Plan.{Plan}
-use Rattle.plan.specs.Plan.{letter_at, network_of}
+use Rattle.plan.specs.Plan.{network_of}
 use Rattle.plan.specs.Settled.{of_kind}
 
 -- ---- a mask by its letters, the highest first
@@ -22,6 +23,11 @@ use Rattle.plan.specs.Settled.{of_kind}
 pub record MaskFrom (w : ℕ) (f : ℕ → Bool) (i m : ℕ) : Type 0 where
   pub within : i ≤ w
   pub is : m ≡ mask (w - i) (λ j. f (i + j))
+
+-- a byte made from a truth value
+pub digit_byte : (b : Bool) → bool_byte b ≡ digit b
+digit_byte true = refl
+digit_byte false = refl
 
 -- none from i on
 pub mask_none : (w i : ℕ) (f : ℕ → Bool) → i ≤ w → ((k : ℕ) → i ≤ k → k < w → f k ≡ false) → MaskFrom w f i 0
@@ -66,15 +72,6 @@ pub of_no_kind : (p : Plan) (decided : Bool) (i : ℕ) → p.letters ≤ i → o
 of_no_kind p true i h = rw (ltb_no i p.letters (λ lt. omega arith))
 of_no_kind p false i h = rw (ltb_no i p.letters (λ lt. omega arith))
 
-pub decision_kind : (p : Plan) (decided : Bool) (i : ℕ) → i < p.letters → (letter_at p i).kind ≡ 1 → of_kind (network_of p) decided i ≡ decided
-decision_kind p true i h e = rw (ltb_yes i p.letters h, e)
-decision_kind p false i h e = rw (ltb_yes i p.letters h, e)
-
-pub condition_kind :
-    (p : Plan) (decided : Bool) (i : ℕ) → i < p.letters → ¬ ((letter_at p i).kind ≡ 1) → of_kind (network_of p) decided i ≡ not decided
-condition_kind p true i h n = rw (ltb_yes i p.letters h, eqb_no (letter_at p i).kind 1 n)
-condition_kind p false i h n = rw (ltb_yes i p.letters h, eqb_no (letter_at p i).kind 1 n)
-
 -- a plan with these letters: no more of it matters to their kinds
 abbrev pub letters_only : ℕ → List Letter → Plan
 letters_only count letters = record { horizon = 0; points = 0; letters = count; constraints = 0; letter = letters; constraint = [] }
@@ -82,12 +79,6 @@ letters_only count letters = record { horizon = 0; points = 0; letters = count; 
 -- letter l is of one kind, and disclosed by one of these points
 abbrev pub disclosed_by : Plan → Bool → ℕ → ℕ → Bool
 disclosed_by p decided points l = of_kind (network_of p) decided l && bit points ((network_of p).disclosing l)
-
-pub disclosed_only :
-    (p : Plan) (count : ℕ) (letters : List Letter) (decided : Bool) (points : ℕ) → p.letters ≡ count → p.letter ≡ letters →
-    mask 6 (disclosed_by (letters_only count letters) decided points) ≡ mask 6 (disclosed_by p decided points)
-disclosed_only p count letters true points few same = rw (← few, ← same) refl
-disclosed_only p count letters false points few same = rw (← few, ← same) refl
 
 -- letters that are not used
 pub disclosed_none : (p : Plan) (decided : Bool) (points k : ℕ) → p.letters ≤ k → disclosed_by p decided points k ≡ false

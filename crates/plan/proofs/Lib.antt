@@ -1,5 +1,6 @@
 -- The laws of the crate. Only the checker need believe them; PlanTheorems.antt has statements to read.
 pub mod SliceLaws
+pub mod MadeLaws
 pub mod LetterLaws
 pub mod RefusalLaws
 pub mod AnswerLaws

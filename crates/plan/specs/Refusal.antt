@@ -1,9 +1,7 @@
 -- Definitions: document 01's number of each refusal. Nothing else in the definitions says these numbers. To be believed, for demand 1, 3.
-use Rattle.std.specs.Prelude.{ℕ}
+use Rattle.std.specs.Prelude.{ℕ, Result, Ok, Err}
 use Rattle.plan.specs.declared.Refusal.{Refusal}
 use Rattle.plan.specs.declared.Refusal.TheVariants as refusal
-use Rattle.plan.specs.declared.Judged.{Judged}
-use Rattle.plan.specs.declared.Judged.TheVariants as judged
 
 abbrev pub refusal_number : Refusal → ℕ
 refusal_number refusal.PlanText = 1
@@ -19,6 +17,6 @@ refusal_number refusal.Buffer = 10
 refusal_number refusal.Hopeless = 11
 
 -- 0 for fine, else the refusal's number
-abbrev pub judged_number : Judged → ℕ
-judged_number judged.Fine = 0
-judged_number (judged.Refused r) = refusal_number r
+abbrev pub judged_number : Result (Unit {0}) Refusal → ℕ
+judged_number (Ok _) = 0
+judged_number (Err r) = refusal_number r

@@ -9,7 +9,7 @@ pub fn letter_at(plan: Plan, i: u8) -> Letter
     ensures { result ≡ letter_at plan i }
 {
     if 6 <= i {
-        return Letter { point: 0, kind: 0 };
+        return Letter::default();
     }
     plan.letter[i as usize]
 }
@@ -19,13 +19,7 @@ pub fn constraint_at(plan: Plan, j: u8) -> Constraint
     ensures { result ≡ constraint_at plan j }
 {
     if 64 <= j {
-        return Constraint {
-            from: 0,
-            to: 0,
-            bound: 0,
-            need: 0,
-            truth: 0,
-        };
+        return Constraint::default();
     }
     plan.constraint[j as usize]
 }
