@@ -1,22 +1,16 @@
--- Laws of a bound in two's complement, of one constraint and of all constraints of a plan kept so far. Only the checker need believe this file.
-use mathlib.Core.Path.{◌≡◌, refl, sym, ◌∙◌}
-use mathlib.Core.Logic.{by_cases}
-use mathlib.Core.Bool.{Bool, true, false, not, ◌&&◌, ◌||◌, or-true}
-use Prim.Native.Nat.{ℕ, zero, suc, ◌+◌, ◌-◌, ◌≤◌, ◌<◌}
+-- Laws of a bound in two's complement, and of one constraint kept so far. Only the checker need believe this file.
+use mathlib.Core.Path.{◌≡◌, refl, sym}
+use mathlib.Core.Bool.{Bool, true, false, not, ◌&&◌, ◌||◌}
+use Prim.Native.Nat.{ℕ, suc, ◌+◌, ◌-◌, ◌≤◌, ◌<◌}
 use native.Mathlib.Omega.{arith}
-use native.Mathlib.Decide.{dec_lt}
 use lib.Dec.{leb}
-use lib.ListN.{length, get_or-eq_default}
-use Rattle.network.specs.Mask.{bit, all_below}
+use Rattle.network.specs.Mask.{bit}
 use Rattle.network.specs.Network.{Scenario, Schedule, satisfies, at_most}
 use Rattle.network.specs.Network as net
 use Rattle.network.specs.TestLabel.{is_holds, label_test}
-use Rattle.network.specs.SoFar.{kept_so_far, all_kept_so_far, keeps_so_far}
+use Rattle.network.specs.SoFar.{kept_so_far}
 use Rattle.network.proofs.Booleans.{both_ways, leb_yes, leb_is, ltb_yes, ltb_no}
-use Rattle.network.proofs.BelowLaws.{all_at, all_make, all_first}
-use Rattle.plan.specs.declared.Constraint.{Constraint}
-use Rattle.plan.specs.declared.Plan.{Plan}
-use Rattle.plan.specs.Plan.{zero_constraint, constraint_at, constraint_of, label_of, signed, listed, network_of}
+use Rattle.plan.specs.Plan.{signed}
 
 -- ---- a bound in two's complement
 
@@ -52,35 +46,3 @@ module _ (known performed : ℕ) (ψ : Schedule) (s : Scenario) (c : net.Constra
   -- else the slots decide
   pub held_and_performed : is_holds (label_test known s c.label) ≡ true → both ≡ true → satisfies ψ c ≡ kept_so_far known performed ψ s c
   held_and_performed h d = rw (h, d)
-
--- ---- all constraints of a plan
-
-module _ (known performed : ℕ) (ψ : Schedule) (s : Scenario) where
-  -- constraint j of a plan
-  abbrev pub kept_at : Plan → ℕ → Bool
-  kept_at p j = kept_so_far known performed ψ s (constraint_of (constraint_at p j))
-
-  pub kept_listed :
-      (n : ℕ) (at : ℕ → Constraint) →
-      all_kept_so_far known performed ψ s (listed n (λ j. constraint_of (at j))) ≡ all_below n (λ j. kept_so_far known performed ψ s (constraint_of (at j)))
-  unfolding all_kept_so_far listed all_below
-  kept_listed zero at = refl
-  kept_listed (suc n) at = rw (all_first, kept_listed n (λ j. at (suc j)))
-
-  pub keeps_all : (p : Plan) → keeps_so_far (network_of p) known performed ψ s ≡ all_below p.constraints (kept_at p)
-  unfolding keeps_so_far
-  keeps_all p = kept_listed p.constraints (constraint_at p)
-
-  -- the zero constraint asks nothing
-  zero_kept : kept_so_far known performed ψ s (constraint_of zero_constraint) ≡ true
-  unfolding at_most signed
-  zero_kept = rw (leb_yes (ψ 0) (ψ 0 + 0) (omega arith)) (or-true (not (is_holds (label_test known s (label_of zero_constraint)) && (bit performed 0 && bit performed 0))))
-
-  -- it stands past the array, so that no more than the array matters
-  pub keeps_past :
-      (p : Plan) (j : ℕ) → length p.constraint ≤ j → all_below j (kept_at p) ≡ true → keeps_so_far (network_of p) known performed ψ s ≡ true
-  keeps_past p j past kept =
-      keeps_all p
-      ∙ all_make p.constraints (kept_at p) (λ i lt. by_cases (dec_lt i j)
-      (all_at j (kept_at p) kept i)
-      (λ ge. rw (get_or-eq_default p.constraint zero_constraint {n = i} (omega arith)) zero_kept))

@@ -16,7 +16,11 @@ use Rattle.network.proofs.BelowLaws.{all_at, all_make, any_at, any_make}
 use Rattle.network.proofs.MaskLaws.{bit_zero, bit_mask, bit_above, no_bits, mask_full}
 use Rattle.network.proofs.LabelTestLaws.{tested_all}
 use Rattle.network.proofs.MachineLaws.{bit_and_lem, bit_xor_lem, bit_not}
-use Rattle.constraints.specs.Labels.{label}
+use denote.Enum.Bare.{sameb}
+use Rattle.constraints.specs.declared.labels.Tested.{Tested}
+use Rattle.constraints.specs.declared.labels.Tested.TheVariants as tested
+use Rattle.constraints.specs.contracts.labels.Tested.{the_type}
+use Rattle.constraints.specs.Labels.{label, tested_as}
 
 module _ (v t n k : ℕ) (small : n < 2 ^ 8) (few : k < 2 ^ 8) where
   -- the needed letters that are known and disagree
@@ -103,3 +107,9 @@ module _ (v t n k : ℕ) (small : n < 2 ^ 8) (few : k < 2 ^ 8) where
 -- with all eight letters known it holds exactly where the label holds
 pub all_letters : (s : Scenario) (label : Label) → is_holds (label_test 255 s label) ≡ holds s label
 all_letters s label = tested_all 255 s label (λ l lt n. sym (ap (λ (x : ℕ). bit x l) (mask_full 8)) ∙ bit_mask 8 (λ i. true) l lt)
+
+-- the code's test whether an answer is that the label holds
+pub tells_holds : (t : Tested) → sameb the_type t tested.Holds ≡ is_holds (tested_as t)
+tells_holds tested.Holds = refl
+tells_holds tested.Fails = refl
+tells_holds tested.Open = refl

@@ -3,4 +3,4 @@ pub mod ConstraintLaws
 pub mod LabelLaws
 pub mod LimitingLaws
 pub mod RaisingLaws
-pub mod RowLaws
+pub mod UsedLaws

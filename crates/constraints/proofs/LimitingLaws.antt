@@ -1,19 +1,18 @@
--- Laws of what the code of limits computes: a bound plus the bias, a limit lowered, constraints looked at from the front. Only the checker
--- need believe this file.
-use mathlib.Core.Path.{◌≡◌, refl, sym, ap, ◌∙◌}
+-- Laws of what the code of limits computes: a bound plus the bias, a limit lowered, what one constraint asks. Only the checker need believe
+-- this file.
+use mathlib.Core.Path.{◌≡◌, sym}
 use mathlib.Core.Logic.{by_cases}
 use mathlib.Core.Bool.{true, false}
 use mathlib.Core.List.{List}
-use Prim.Native.Nat.{ℕ, zero, suc, ◌+◌, ◌%◌, ◌≤◌, ◌<◌}
+use Prim.Native.Nat.{ℕ, ◌+◌, ◌%◌, ◌≤◌, ◌<◌}
 use native.Mathlib.Omega.{arith}
-use native.Mathlib.Numerals.{add-one}
 use native.Mathlib.Decide.{dec_lt}
 use lib.ListN.{length}
 use lib.Seq.{set_out}
 use Rattle.network.specs.Network.{Constraint, Scenario, holds}
-use Rattle.network.specs.Limits.{biased, lowered, limited, all_limited}
+use Rattle.network.specs.Limits.{biased, lowered, limited}
 use Rattle.network.proofs.Booleans.{ltb_yes, ltb_no}
-use Rattle.plan.specs.Plan.{signed, listed}
+use Rattle.plan.specs.Plan.{signed}
 
 -- half of the range is added and taken off
 pub biased_is : (b : ℕ) → b < 65536 → (b + 32768) % 65536 + 16744448 ≡ biased (signed b)
@@ -38,20 +37,3 @@ module _ (s : Scenario) where
       (t : List (List ℕ)) (c : Constraint) → holds s c.label ≡ true → lowered t c.from c.to (biased c.bound) ≡ limited s t c
   unfolding limited
   own_limit t c held = rw held
-
-  -- constraints looked at from the front
-  one_more :
-      (t : List (List ℕ)) (j : ℕ) (at : ℕ → Constraint) →
-      all_limited s t (listed (suc j) at) ≡ limited s (all_limited s t (listed j at)) (at j)
-  unfolding all_limited listed
-  one_more t zero at = refl
-  one_more t (suc j) at = one_more (limited s t (at zero)) j (λ i. at (suc i))
-
-  pub limits_start : (t : List (List ℕ)) (at : ℕ → Constraint) → t ≡ all_limited s t (listed 0 at)
-  unfolding all_limited listed
-  limits_start t at = refl
-
-  pub limits_next :
-      (t : List (List ℕ)) (j : ℕ) (at : ℕ → Constraint) →
-      all_limited s t (listed (j + 1) at) ≡ limited s (all_limited s t (listed j at)) (at j)
-  limits_next t j at = ap (λ (n : ℕ). all_limited s t (listed n at)) (add-one j) ∙ one_more t j at

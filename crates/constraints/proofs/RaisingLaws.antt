@@ -1,22 +1,18 @@
--- Laws of what the code of the raise computes: the slot that a bound asks, one slot no earlier, turns taken from the front, eight slots
--- compared. Only the checker need believe this file.
-use mathlib.Core.Path.{◌≡◌, refl, sym, ap, ◌∙◌}
+-- Laws of what the code of the raise computes: the slot that a bound asks, one slot no earlier, a turn. Only the checker need believe this
+-- file.
+use mathlib.Core.Path.{◌≡◌, sym, ap, ◌∙◌}
 use mathlib.Core.Logic.{by_cases}
-use mathlib.Core.Bool.{Bool, true, false}
+use mathlib.Core.Bool.{true, false}
 use mathlib.Core.List.{List}
-use Prim.Native.Nat.{ℕ, zero, suc, ◌+◌, ◌-◌, ◌%◌, ◌≤◌, ◌<◌, min, max}
+use Prim.Native.Nat.{ℕ, ◌+◌, ◌-◌, ◌%◌, ◌≤◌, ◌<◌, min, max}
 use native.Mathlib.Omega.{arith}
-use native.Mathlib.Numerals.{add-one}
 use native.Mathlib.Decide.{dec_lt}
-use lib.Dec.{eqb}
 use lib.ListN.{length, get_or, set}
-use lib.Seq.{set_out, set-get_or, ext_get_or}
-use Rattle.network.specs.Mask.{all_below}
-use Rattle.network.specs.Network.{Scenario, Constraint, slots_in, holds}
-use Rattle.network.specs.Raise.{least_from, asked, turn, turns}
-use Rattle.network.proofs.Booleans.{clash, ltb_yes, ltb_no, eqb_yes, eqb_is}
-use Rattle.network.proofs.BelowLaws.{all_at, all_make}
-use Rattle.plan.specs.Plan.{signed, listed}
+use lib.Seq.{set_out, set-get_or}
+use Rattle.network.specs.Network.{Scenario, Constraint, holds}
+use Rattle.network.specs.Raise.{least_from, asked, turn}
+use Rattle.network.proofs.Booleans.{ltb_yes, ltb_no}
+use Rattle.plan.specs.Plan.{signed}
 
 -- ---- a bound in two's complement
 
@@ -62,29 +58,3 @@ pub own_turn :
     set slots c.from (max (get_or slots c.from 0) (min cap (least_from (get_or slots c.to 0) c.bound))) ≡ turn cap s slots c
 unfolding turn asked
 own_turn cap s slots c held = rw held
-
--- ---- turns from the front
-
-one_more :
-    (cap : ℕ) (s : Scenario) (slots : List ℕ) (j : ℕ) (at : ℕ → Constraint) →
-    turns cap s slots (listed (suc j) at) ≡ turn cap s (turns cap s slots (listed j at)) (at j)
-unfolding turns listed
-one_more cap s slots zero at = refl
-one_more cap s slots (suc j) at = one_more cap s (turn cap s slots (at zero)) j (λ i. at (suc i))
-
-pub turns_next :
-    (cap : ℕ) (s : Scenario) (slots : List ℕ) (j : ℕ) (at : ℕ → Constraint) →
-    turns cap s slots (listed (j + 1) at) ≡ turn cap s (turns cap s slots (listed j at)) (at j)
-turns_next cap s slots j at = ap (λ (n : ℕ). turns cap s slots (listed n at)) (add-one j) ∙ one_more cap s slots j at
-
--- ---- eight slots compared
-
-abbrev pub alike : List ℕ → List ℕ → ℕ → Bool
-alike a b x = eqb (slots_in a x) (slots_in b x)
-
-pub same_is : (a b : List ℕ) → length a ≡ 8 → length b ≡ 8 → all_below 8 (alike a b) ≡ true → a ≡ b
-same_is a b la lb t =
-    ext_get_or 0 a b (la ∙ sym lb) (λ x lt. eqb_is (slots_in a x) (slots_in b x) (all_at 8 (alike a b) t x (omega arith)))
-
-pub same_not : (a b : List ℕ) → all_below 8 (alike a b) ≡ false → b ≡ a → ⊥
-same_not a b z e = clash (all_make 8 (alike a b) (λ x lt. eqb_yes (slots_in a x) (slots_in b x) (rw e))) z

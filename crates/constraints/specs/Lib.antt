@@ -1,3 +1,3 @@
 -- Definitions: the modules of this folder, in the order in which they are read.
 pub mod Labels
-pub mod Rows
+pub mod Used

@@ -2,14 +2,14 @@
 ghost use Rattle.std.specs.Prelude.{◌≡◌};
 ghost use Rattle.network.specs.Mask.{bit};
 ghost use Rattle.network.specs.Network.{holds};
-ghost use Rattle.network.specs.TestLabel.{label_test, is_holds};
+ghost use Rattle.network.specs.TestLabel.{label_test};
 ghost use Rattle.constraints.specs.Labels.{label, tested_as};
 
 // Under a setting all letters are known.
 const ALL_LETTERS: u8 = 255;
 
 // What the letters known so far say of a label (card 1's terms): it holds, it fails, or it is open.
-#[derive(Clone, Copy)]
+#[derive(Clone, Copy, PartialEq, Eq)]
 pub enum Tested {
     Holds,
     Fails,
@@ -31,20 +31,9 @@ pub fn label_test(need: u8, truth: u8, values: u8, known: u8) -> Tested
     Tested::Holds
 }
 
-// Whether the answer is that the label holds.
-pub fn says_holds(test: Tested) -> bool
-    ensures { result ≡ is_holds (tested_as test) }
-{
-    match test {
-        Tested::Holds => true,
-        Tested::Fails => false,
-        Tested::Open => false,
-    }
-}
-
 // Whether the label holds under a setting: the letters of `values` are true, the others false.
 pub fn label_holds(need: u8, truth: u8, values: u8) -> bool
     ensures { result ≡ holds (bit values) (label need truth) }
 {
-    says_holds(label_test(need, truth, values, ALL_LETTERS))
+    label_test(need, truth, values, ALL_LETTERS) == Tested::Holds
 }

@@ -11,16 +11,6 @@ use plan::{Constraint, Plan};
 // 2 to the 24: so no limit is negative while differences are added, and 32 bits hold the sum of two.
 pub const BIAS: u32 = 16777216;
 
-// The lesser of two limits.
-pub fn lesser(a: u32, b: u32) -> u32
-    ensures { result ≡ min a b }
-{
-    if a < b {
-        return a;
-    }
-    b
-}
-
 // A bound, which is in two's complement, plus the bias. Half of the range is added and taken off, so that the sign needs no branch.
 fn biased(bound: u16) -> u32
     ensures { result ≡ biased (signed bound) }
@@ -36,7 +26,7 @@ fn lowered_in(row: [u32; 8], y: u8, v: u32) -> [u32; 8]
         return row;
     }
     let mut next = row;
-    next[y as usize] = lesser(row[y as usize], v);
+    next[y as usize] = row[y as usize].min(v);
     next
 }
 
@@ -68,15 +58,11 @@ pub fn all_limited(plan: Plan, limits: [[u32; 8]; 8], values: u8) -> [[u32; 8]; 
     ensures { plan.constraints ≤ 64 → result ≡ all_limited (bit values) limits (network_of plan).constraints }
 {
     let mut so_far = limits;
-    let n = plan.constraints;
-    let mut j: u8 = 0;
-    while j < n {
-        if 64 <= j {
-            return so_far;
-        }
-        let next = limited(plan.constraint[j as usize], so_far, values);
+    let constraints = crate::used(&plan);
+    for c in constraints {
+        // bound first: an array that a call hands back, assigned at once, is not covered by the proof
+        let next = limited(*c, so_far, values);
         so_far = next;
-        j += 1;
     }
     so_far
 }

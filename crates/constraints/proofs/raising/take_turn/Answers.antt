@@ -20,5 +20,5 @@ returns c =
     (rw (
       ← c.slot_in.ensures,
       ← c.least_from-least.ensures,
-      ← c.at_most_cap-slot.ensures,
+      ← c.min-slot.ensures,
     ) c.no_earlier.ensures)
