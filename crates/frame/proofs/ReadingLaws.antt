@@ -5,16 +5,35 @@ use mathlib.Core.Bool.{Bool}
 use mathlib.Core.List.{List}
 use Prim.Native.Nat.{ℕ, ◌+◌, ◌-◌, ◌≤◌, ◌<◌}
 use lib.ListN.{length}
+use Rattle.std.specs.Prelude.{Result, Ok, Err}
 use Rattle.plan.specs.declared.Refusal.{Refusal}
 use Rattle.plan.specs.Refusal.{refusal_number}
-use Rattle.plan.specs.Answer.{Answer}
+use Rattle.plan.specs.Answer.{Answer, fine, answer_of}
 use Rattle.plan.specs.Faults.{answered, and_then}
-use Rattle.plan.proofs.RefusalLaws.{no_refusal}
+use Rattle.plan.proofs.RefusalLaws.{no_refusal, refusal_one_number}
+use Rattle.plan.proofs.AnswerLaws.{answered_fine, answered_refused}
 use Rattle.plan.proofs.SliceLaws.{rest, rest_is}
 use Rattle.frame.specs.ReadFrame.{frame_length, whole}
 use Rattle.frame.specs.Texts.{frame_fault, frames_from}
 use Rattle.frame.proofs.FrameLaws.{whole_long}
 use Rattle.frame.proofs.RunLaws.{then_goes, then_stops, frame_read_is, frames_step}
+
+-- what a call hands back, and its number and value
+module _ {A : Type 0} (zeros : A) where
+  -- a frame judged, and what it says: the refusal where it has one
+  pub judged_refused : (a : A) (k : Refusal) {n : ℕ} → refusal_number k ≡ n → answer_of zeros (Err k) ≡ answered zeros n a
+  judged_refused a k e = rw (← e) (answered_refused zeros a k)
+
+  pub judged_fine : (a : A) {n : ℕ} → 0 ≡ n → answer_of zeros (Ok a) ≡ answered zeros n a
+  judged_fine a {n} e = sym (answered_fine zeros n a (sym e))
+
+  pub answer_ok : (r : Result A Refusal) (a : A) → answer_of zeros r ≡ fine a → r ≡ Ok a
+  answer_ok (Ok b) a e = ap (λ (x : Answer A). Ok x.value) e
+  answer_ok (Err k) a e = absurd (no_refusal k (ap (λ (x : Answer A). x.fault) e))
+
+  pub answer_err : (r : Result A Refusal) (k : Refusal) → (answer_of zeros r).fault ≡ refusal_number k → r ≡ Err k
+  answer_err (Ok b) k e = absurd (no_refusal k (sym e))
+  answer_err (Err j) k e = ap (λ (i : Refusal). Err i) (refusal_one_number j k e)
 
 module _ {A : Type 0} where
   -- x is what a call answered. Reading goes on behind what is fine, and ends at what is not.

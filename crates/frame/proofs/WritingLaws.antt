@@ -17,8 +17,7 @@ use Rattle.plan.specs.Refusal.{refusal_number}
 use Rattle.plan.specs.Answer.{Answer}
 use Rattle.plan.specs.Faults.{unless, first, answered, filled}
 use Rattle.plan.proofs.RefusalLaws.{some_number}
-use Rattle.frame.specs.declared.Written.{Written}
-use Rattle.frame.specs.declared.Written.TheVariants as written
+use Rattle.std.specs.Prelude.{Result, Ok, Err}
 use Rattle.frame.specs.Texts.{room_fault}
 use Rattle.frame.specs.Written.{written_answer}
 
@@ -44,19 +43,19 @@ abbrev pub writes : ℕ → List ℕ → List ℕ → Answer ℕ
 writes fault text xs = answered 0 (first fault (room_fault text xs)) (length text)
 
 -- the answer r was given and ys left in the buffer that was xs
-abbrev pub Wrote : ℕ → List ℕ → List ℕ → Written → List ℕ → Type 0
+abbrev pub Wrote : ℕ → List ℕ → List ℕ → Result ℕ Refusal → List ℕ → Type 0
 Wrote fault text xs r ys = (written_answer r ≡ writes fault text xs) × (ys ≡ filled (writes fault text xs).fault text xs)
 
 module _ (fault : ℕ) (text xs : List ℕ) where
-  pub write_refused : (r : Refusal) → refusal_number r ≡ fault → Wrote fault text xs (written.Refused r) xs
+  pub write_refused : (r : Refusal) → refusal_number r ≡ fault → Wrote fault text xs (Err r) xs
   unfolding first answered filled
   write_refused r e = (rw (← e) (simp (some_number r)), rw (← e) (simp (some_number r)))
 
-  pub write_short : 0 ≡ fault → length xs < length text → Wrote fault text xs (written.Refused refusal.Buffer) xs
+  pub write_short : 0 ≡ fault → length xs < length text → Wrote fault text xs (Err refusal.Buffer) xs
   unfolding unless first answered filled
   write_short e h = let no_room = lt-leb (length text) (length xs) h in (rw (← e, no_room), rw (← e, no_room))
 
-  pub write_done : 0 ≡ fault → length text ≤ length xs → Wrote fault text xs (written.Length (length text)) (sets xs 0 text)
+  pub write_done : 0 ≡ fault → length text ≤ length xs → Wrote fault text xs (Ok (length text)) (sets xs 0 text)
   unfolding unless first answered filled
   write_done e h =
       let room = le-leb (length text) (length xs) h in

@@ -1,6 +1,6 @@
 -- Definitions: digits and frames read: the bytes of the frame at the front of a text. Computed: pinned by `whole_text` of
 -- frame/proofs/FrameLaws.antt.
-use Rattle.std.specs.Prelude.{cond, ◌&&◌, Bool, List, ℕ, ◌+◌, ◌-◌, ◌*◌, ◌%◌, leb, ltb, eqb, get_or}
+use Rattle.std.specs.Prelude.{cond, ◌&&◌, Bool, Option, Some, None, List, ℕ, ◌+◌, ◌-◌, ◌*◌, ◌%◌, leb, ltb, eqb, get_or}
 use Rattle.network.specs.Mask.{all_below}
 
 -- the value of the digit c, and 16 where c is none: 48 to 57 are 0-9, 65 to 70 are A-F
@@ -10,6 +10,10 @@ digit_of c = cond (leb 48 c && leb c 57) (c - 48) (cond (leb 65 c && leb c 70) (
 -- the byte that two digits say, high digit first, and 256 where one of them is none
 unfoldable pub pair_of : ℕ → ℕ → ℕ
 pair_of h l = cond (ltb h 16 && ltb l 16) (16 * h + l) 256
+
+-- These numbers, and those of `byte_at` below, as the code has them: v where it is below n, nothing where it is none.
+abbrev pub if_below : ℕ → ℕ → Option ℕ
+if_below n v = cond (ltb v n) (Some v) None
 
 -- how many characters a frame of n bytes has
 abbrev pub frame_length : ℕ → ℕ

@@ -1,10 +1,8 @@
 -- Definitions: number and value of each case of what a writing hands back. To be believed, for the contracts only.
-use Rattle.std.specs.Prelude.{ℕ}
-use Rattle.plan.specs.Answer.{Answer, fine, refused}
-use Rattle.frame.specs.declared.Written.{Written}
-use Rattle.frame.specs.declared.Written.TheVariants as written
+use Rattle.std.specs.Prelude.{ℕ, Result}
+use Rattle.plan.specs.declared.Refusal.{Refusal}
+use Rattle.plan.specs.Answer.{Answer, answer_of}
 
 -- fault and value of an answer: the text's length
-abbrev pub written_answer : Written → Answer ℕ
-written_answer (written.Length n) = fine n
-written_answer (written.Refused r) = refused 0 r
+abbrev pub written_answer : Result ℕ Refusal → Answer ℕ
+written_answer = answer_of 0

@@ -1,32 +1,33 @@
-// Hexadecimal digits, 0-9 and A-F in upper case.
+// Hexadecimal digits, 0-9 and A-F in upper case; those of std's conversions have lower case too.
 ghost use Rattle.std.specs.Prelude.{◌≡◌, ◌%◌};
 ghost use Rattle.frame.specs.Hex.{hex_digit};
-ghost use Rattle.frame.specs.ReadFrame.{digit_of, pair_of};
+ghost use Rattle.frame.specs.ReadFrame.{if_below, digit_of, pair_of};
 
-// The value of the digit c, and 16 where c is none.
-pub fn digit(c: u8) -> u8
-    ensures { result ≡ digit_of c }
+// The value of the digit c, where it is one.
+#[tactic(auto, unfolding(crate::specs::ReadFrame::digit_of))]
+pub fn digit(c: u8) -> Option<u8>
+    ensures { result ≡ if_below 16 (digit_of c) }
 {
-    if (48 <= c) & (c <= 57) {
-        return c - 48;
+    match c {
+        48..=57 => Some(c - 48),
+        65..=70 => Some(c - 55),
+        _ => None,
     }
-    if (65 <= c) & (c <= 70) {
-        return c - 55;
-    }
-    16
 }
 
-// The byte that two digits say, and 256 where one of them is none.
-pub fn pair(high: u8, low: u8) -> u16
-    ensures { result ≡ pair_of high low }
+// The byte that two digits say, where both are digits' values.
+#[tactic(auto, unfolding(crate::specs::ReadFrame::pair_of))]
+pub fn pair(high: u8, low: u8) -> Option<u8>
+    ensures { result ≡ if_below 256 (pair_of high low) }
 {
     if (high < 16) & (low < 16) {
-        return 16 * (high as u16) + (low as u16);
+        return Some(16 * high + low);
     }
-    256
+    None
 }
 
 // The digit of v, or of its remainder where v is not below 16.
+#[tactic(auto, unfolding(crate::specs::Hex::hex_digit))]
 pub fn hex_digit(v: u8) -> u8
     ensures { result ≡ hex_digit (v % 16) }
 {

@@ -5,11 +5,13 @@ pub mod hex;
 pub mod reading;
 pub mod writing;
 
-use plan::Refusal;
-
-// What a writing answers: the length of the text, or why nothing was written.
-#[derive(Clone, Copy)]
-pub enum Written {
-    Length(usize),
-    Refused(Refusal),
+// The first byte of a frame (document 01): of a plan's text, of a tree's text, of a refusal.
+#[derive(Clone, Copy, PartialEq, Eq)]
+pub enum Kind {
+    Head = 1,
+    Letter = 2,
+    Constraint = 3,
+    TreeHead = 4,
+    Node = 5,
+    Refusal = 127,
 }

@@ -7,10 +7,11 @@ ghost use Rattle.frame.specs.Frame.{frame_text};
 ghost use Rattle.frame.specs.ReadFrame.{frame_length};
 ghost use Rattle.frame.specs.Texts.{refusal_text};
 
-use crate::hex;
+use crate::{Kind, hex};
 use plan::Refusal;
 
 // The two digits of a byte.
+#[tactic(auto, using(crate::proofs::CodeLaws::high_digit, crate::proofs::CodeLaws::put_two))]
 fn put_byte(out: &mut [u8], at: usize, b: u8)
     requires { at + 2 ≤ length out.old }
     ensures { out.new ≡ sets out.old at (hex_digit (b / 16) ∷ hex_digit (b % 16) ∷ []) }
@@ -24,17 +25,14 @@ fn put_line(out: &mut [u8], at: usize, bytes: &[u8])
     requires { at + frame_length (length bytes.now) ≤ length out.old }
     ensures { out.new ≡ sets out.old at (frame_text bytes.now) }
 {
-    let mut k: usize = 0;
-    let mut i = at;
-    while k < bytes.len() {
-        put_byte(out, i, bytes[k]);
-        i += 2;
-        k += 1;
+    for (k, &b) in bytes.iter().enumerate() {
+        put_byte(out, at + 2 * k, b);
     }
-    out[i] = 10;
+    out[at + 2 * bytes.len()] = 10;
 }
 
 // The frame of these bytes at place `at` of the buffer. Where it does not fit there, nothing changes.
+#[tactic(auto, using(crate::proofs::FrameLaws::frame_length_lem))]
 pub fn put_frame(out: &mut [u8], at: usize, bytes: &[u8])
     ensures { out.new ≡ put_at out.old at (frame_text bytes.now) }
 {
@@ -52,12 +50,7 @@ pub fn put_frame(out: &mut [u8], at: usize, bytes: &[u8])
 pub fn refusal_frame(r: Refusal) -> [u8; 5]
     ensures { result ≡ refusal_text r }
 {
-    let n = plan::number(r);
-    [
-        hex::hex_digit(7),
-        hex::hex_digit(15),
-        hex::hex_digit(n / 16),
-        hex::hex_digit(n),
-        10,
-    ]
+    let mut frame = [0; 5];
+    put_frame(&mut frame, 0, &[Kind::Refusal as u8, u8::from(r)]);
+    frame
 }

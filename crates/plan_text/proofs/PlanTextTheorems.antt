@@ -7,20 +7,19 @@ use mathlib.Core.List.{List, ◌++◌}
 use Prim.Native.Nat.{ℕ, suc, ◌≤◌, ◌<◌}
 use native.Mathlib.Omega.{arith}
 use lib.ListN.{length, take}
+use Rattle.std.specs.Prelude.{Result, Ok, Err}
 use Rattle.plan.specs.declared.Plan.{Plan}
 use Rattle.plan.specs.declared.Refusal.{Refusal}
-use Rattle.plan.specs.declared.Judged.{Judged}
-use Rattle.plan.specs.declared.Judged.TheVariants as judged
-use Rattle.plan.specs.Refusal.{refusal_number, judged_number}
+use Rattle.plan.specs.Refusal.{refusal_number}
 use Rattle.plan.specs.Answer.{Answer, fine}
 use Rattle.plan.specs.Plan.{zero_letter, zero_constraint, zero_plan, letter_at, constraint_at}
 use Rattle.plan.specs.WellFormed.{WellFormed}
-use Rattle.plan.proofs.RefusalLaws.{fine_is, refused_is, no_refusal}
+use Rattle.plan.proofs.RefusalLaws.{no_refusal}
 use Rattle.frame.specs.Frame.{Begins}
 use Rattle.frame.specs.ReadFrame.{frame_length, whole}
 use Rattle.frame.proofs.FrameLaws as frames
 use Rattle.frame.proofs.RunLaws.{filled_front}
-use Rattle.plan_text.specs.declared.PlanRead.{PlanRead}
+use Rattle.frame.proofs.ReadingLaws.{answer_ok, answer_err}
 use Rattle.plan_text.specs.PlanText.{plan_text}
 use Rattle.plan_text.specs.WritePlan.{write_plan, write_plan_leaves}
 use Rattle.plan_text.specs.ReadPlan.{read_plan}
@@ -44,13 +43,11 @@ read_exactly t p = (one_text t p, λ h. ap read_plan h.0 ∙ read_back p h.1 h.2
 
 -- the same of what `read_plan` hands back, by its promise
 pub read_fine_exactly :
-    (t : List ℕ) (r : PlanRead) → plan_read_answer r ≡ read_plan t → length r.plan.letter ≡ 6 → length r.plan.constraint ≡ 64 →
-    (r.answer ≡ judged.Fine) ↔ ((t ≡ plan_text r.plan) × WellFormed r.plan)
-read_fine_exactly t r e six sixty-four = (
-  λ f.
-      let h = (read_exactly t r.plan).0 (sym e ∙ ap (λ (a : Judged). record { fault = judged_number a; value = r.plan }) f) in
-      (h.0, h.1),
-  λ h. fine_is r.answer (ap (λ (a : Answer Plan). a.fault) (e ∙ (read_exactly t r.plan).1 (h.0, h.1, six, sixty-four))),
+    (t : List ℕ) (r : Result Plan Refusal) → plan_read_answer r ≡ read_plan t → (p : Plan) → length p.letter ≡ 6 →
+    length p.constraint ≡ 64 → (r ≡ Ok p) ↔ ((t ≡ plan_text p) × WellFormed p)
+read_fine_exactly t r e p six sixty-four = (
+  λ f. let h = (read_exactly t p).0 (sym e ∙ ap plan_read_answer f) in (h.0, h.1),
+  λ h. answer_ok zero_plan r p (e ∙ (read_exactly t p).1 (h.0, h.1, six, sixty-four)),
 )
 
 -- Every other text is refused, and the number is that of its first faulty frame, whatever follows: a text is refused with n exactly where
@@ -60,12 +57,11 @@ refused_exactly t n ne = (first_fault t n ne, fault_is t n)
 
 -- the same of what `read_plan` hands back, by its promise
 pub read_refused_exactly :
-    (t : List ℕ) (r : PlanRead) → plan_read_answer r ≡ read_plan t → (k : Refusal) →
-    (r.answer ≡ judged.Refused k) ↔ FirstFault t (refusal_number k)
+    (t : List ℕ) (r : Result Plan Refusal) → plan_read_answer r ≡ read_plan t → (k : Refusal) → (r ≡ Err k) ↔ FirstFault t (refusal_number k)
 read_refused_exactly t r e k =
     let number = ap (λ (a : Answer Plan). a.fault) e in (
-      λ f. first_fault t (refusal_number k) (no_refusal k) (sym number ∙ ap judged_number f),
-      λ f. refused_is r.answer k (number ∙ fault_is t (refusal_number k) f),
+      λ f. first_fault t (refusal_number k) (no_refusal k) (sym number ∙ ap (λ (s : Result Plan Refusal). (plan_read_answer s).fault) f),
+      λ f. answer_err zero_plan r k (number ∙ fault_is t (refusal_number k) f),
     )
 
 -- a text has one such number at most

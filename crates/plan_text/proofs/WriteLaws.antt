@@ -6,14 +6,13 @@ use Prim.Native.Nat.{ℕ, ◌+◌, ◌*◌, ◌≤◌, ◌<◌}
 use lib.ListN.{length}
 use lib.Seq.{sets}
 use Rattle.network.proofs.JoinLaws.{join_length}
+use Rattle.std.specs.Prelude.{Result, Ok, Err}
 use Rattle.plan.specs.declared.Plan.{Plan}
 use Rattle.plan.specs.declared.Refusal.{Refusal}
 use Rattle.plan.specs.declared.Refusal.TheVariants as refusal
 use Rattle.plan.specs.Refusal.{refusal_number}
 use Rattle.plan.specs.Plan.{letter_at, constraint_at}
 use Rattle.judge.specs.Judge.{plan_fault}
-use Rattle.frame.specs.declared.Written.{Written}
-use Rattle.frame.specs.declared.Written.TheVariants as written
 use Rattle.frame.specs.Written.{written_answer}
 use Rattle.frame.proofs.WritingLaws.{sets_append, write_refused, write_short, write_done}
 use Rattle.plan_text.specs.PlanText.{head_text, letter_text, constraint_text, plan_text}
@@ -45,17 +44,17 @@ module _ (p : Plan) where
     unfolding plan_text
     plan_put = sym (rw letters_length at (sets_append (sets xs 0 (head_text p)) 11 (letters_text p) (constraints_text p)))
 
-    abbrev Answers : Written → List ℕ → Type 0
+    abbrev Answers : Result ℕ Refusal → List ℕ → Type 0
     Answers r ys = (written_answer r ≡ write_plan p xs) × (ys ≡ write_plan_leaves p xs)
 
-    pub plan_refused : (r : Refusal) → refusal_number r ≡ plan_fault p → Answers (written.Refused r) xs
+    pub plan_refused : (r : Refusal) → refusal_number r ≡ plan_fault p → written_answer (Err r) ≡ write_plan p xs
     unfolding write_plan
-    plan_refused r e = write_refused (plan_fault p) (plan_text p) xs r e
+    plan_refused r e = (write_refused (plan_fault p) (plan_text p) xs r e).0
 
-    pub plan_short_lem : 0 ≡ plan_fault p → length xs < size → Answers (written.Refused refusal.Buffer) xs
+    pub plan_short_lem : 0 ≡ plan_fault p → length xs < size → Answers (Err refusal.Buffer) xs
     unfolding write_plan
     plan_short_lem e h = write_short (plan_fault p) (plan_text p) xs e (rw (plan_length_lem p) h)
 
-    pub plan_written_lem : 0 ≡ plan_fault p → size ≤ length xs → Answers (written.Length size) put
+    pub plan_written_lem : 0 ≡ plan_fault p → size ≤ length xs → Answers (Ok size) put
     unfolding write_plan
     plan_written_lem e h = rw (plan_put, ← plan_length_lem p) (write_done (plan_fault p) (plan_text p) xs e (rw (plan_length_lem p) h))

@@ -1,9 +1,10 @@
--- Definitions: number and value of what reading a plan hands back. To be believed, for the contracts only.
+-- Definitions: number and value of each case of what reading a plan hands back. To be believed, for the contracts only.
+use Rattle.std.specs.Prelude.{Result}
 use Rattle.plan.specs.declared.Plan.{Plan}
-use Rattle.plan.specs.Refusal.{judged_number}
-use Rattle.plan.specs.Answer.{Answer}
-use Rattle.plan_text.specs.declared.PlanRead.{PlanRead}
+use Rattle.plan.specs.declared.Refusal.{Refusal}
+use Rattle.plan.specs.Answer.{Answer, answer_of}
+use Rattle.plan.specs.Plan.{zero_plan}
 
--- fault and value of an answer
-abbrev pub plan_read_answer : PlanRead → Answer Plan
-plan_read_answer r = record { fault = judged_number r.answer; value = r.plan }
+-- fault and value of an answer: the plan, or the record that is all zero
+abbrev pub plan_read_answer : Result Plan Refusal → Answer Plan
+plan_read_answer = answer_of zero_plan

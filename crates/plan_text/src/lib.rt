@@ -4,12 +4,3 @@
 pub mod entries;
 pub mod reading;
 pub mod writing;
-
-use plan::{Judged, Plan};
-
-// What reading answers: fine and the plan, or why not beside a plan that is all zero.
-#[derive(Clone, Copy)]
-pub struct PlanRead {
-    pub answer: Judged,
-    pub plan: Plan,
-}

@@ -1,5 +1,4 @@
 -- Laws: the modules of this folder. Only the checker need believe them.
 pub mod NodeLaws
-pub mod CodeLaws
 pub mod TreeLaws
 pub mod Cases

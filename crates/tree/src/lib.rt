@@ -9,7 +9,7 @@ ghost use Rattle.tree.specs.Parts.{node_bytes, node_at};
 use plan::bytes;
 
 // A node (document 01's term), what is done in a slot: the points performed and the choices made, as masks.
-#[derive(Clone, Copy)]
+#[derive(Clone, Copy, PartialEq, Eq, Default)]
 pub struct Node {
     pub slot: u8,
     pub points: u8,
@@ -30,7 +30,7 @@ pub fn node_count(bytes: &[u8]) -> usize
     bytes.len() / 3
 }
 
-// Node k of the bytes; zeros past their end.
+// Node k of the bytes; zeros past their end. Byte by byte, and no pattern of three: where they end inside the node, those before are read.
 pub fn node_at(nodes: &[u8], k: u8) -> Node
     ensures { result ≡ node_at nodes.now k }
 {
@@ -47,10 +47,7 @@ pub fn put_node(bytes: &mut [u8], k: u8, v: Node)
     ensures { bytes.new ≡ put_at bytes.old (3 * k) (node_bytes v) }
 {
     let i = 3 * (k as usize);
-    if bytes.len() < i + 3 {
-        return;
+    if i + 3 <= bytes.len() {
+        bytes[i..i + 3].copy_from_slice(&[v.slot, v.points, v.choices]);
     }
-    bytes[i] = v.slot;
-    bytes[i + 1] = v.points;
-    bytes[i + 2] = v.choices;
 }

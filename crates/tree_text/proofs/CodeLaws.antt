@@ -5,34 +5,27 @@ use mathlib.Core.List.{List}
 use Prim.Native.Nat.{ℕ, ◌+◌, ◌-◌, ◌*◌, ◌/◌, ◌≤◌, ◌<◌}
 use native.Mathlib.Omega.{arith}
 use native.Mathlib.Nat.{zero-add}
-use lib.ListN.{length, drop, take}
+use lib.ListN.{length, drop}
 use lib.Seq.{sets, sets-eq}
 use borrow.Author.Tests.{le-leb, lt-leb}
 use Rattle.network.specs.Mask.{join_below}
 use Rattle.network.proofs.Booleans.{leb_yes}
+use Rattle.std.specs.Prelude.{Result, Ok, Err}
 use Rattle.plan.specs.declared.Refusal.{Refusal}
 use Rattle.plan.specs.declared.Refusal.TheVariants as refusal
-use Rattle.plan.specs.declared.Judged.{Judged}
-use Rattle.plan.specs.declared.Judged.TheVariants as judged
-use Rattle.plan.specs.Refusal.{judged_number}
 use Rattle.plan.specs.Answer.{Answer, fine, refused}
 use Rattle.plan.specs.Faults.{unless, first, answered, filled, put_at}
 use Rattle.plan.proofs.RefusalLaws.{some_number}
-use Rattle.frame.specs.declared.Written.{Written}
-use Rattle.frame.specs.declared.Written.TheVariants as written
 use Rattle.frame.specs.ReadFrame.{frame_length}
 use Rattle.frame.specs.Texts.{frames_from, at_end}
 use Rattle.frame.specs.Written.{written_answer}
-use Rattle.plan.proofs.AnswerLaws.{answered_fine, answered_refused}
 use Rattle.frame.proofs.RunLaws.{filled_is}
-use Rattle.plan.proofs.SliceLaws.{rest_is}
+use Rattle.plan.proofs.SliceLaws.{rest, rest_is}
 use Rattle.frame.proofs.ReadingLaws.{frames_on}
 use Rattle.frame.proofs.WritingLaws.{sets_append, join_next, write_refused, write_short, write_done}
 use Rattle.tree.specs.declared.Node.{Node}
 use Rattle.tree.specs.Nodes.{node_count, most_bytes, legal_length}
 use Rattle.tree.specs.Parts.{node_bytes, node_at}
-use Rattle.tree_text.specs.declared.TreeRead.{TreeRead}
-use Rattle.tree_text.specs.declared.TreeRead.TheVariants as tree_read_lem
 use Rattle.tree_text.specs.TreeText.{tree_head_text, tree_text}
 use Rattle.tree_text.specs.WriteTree.{node_text}
 use Rattle.tree_text.specs.WriteTree.{write_tree, write_tree_leaves}
@@ -40,44 +33,35 @@ use Rattle.tree_text.specs.TreeRead.{tree_read_answer}
 use Rattle.tree_text.specs.ReadTree.{read_node, read_nodes, node_in, bytes_in, read_tree, read_tree_leaves}
 use Rattle.tree_text.proofs.TreeTextLaws.{node_reader, Reads, reads, node_fine, one_text, bytes_length, text_length, reads_whole}
 
--- ---- answers
-
-pub refused_is : (a : Judged) (r : Refusal) (n : ℕ) → a ≡ judged.Refused r → refused 0 r ≡ answered 0 (judged_number a) n
-refused_is a r n e = rw e (answered_refused 0 n r)
-
-pub fine_is : (a : Judged) (n : ℕ) → a ≡ judged.Fine → fine n ≡ answered 0 (judged_number a) n
-fine_is a n e = rw e (sym (answered_fine 0 0 n refl))
-
 -- ---- reading
 
 -- a run of node frames goes on behind one that is whole
 pub nodes_on :
     (n k : ℕ) (s : List ℕ) → k < n → (read_node n s).fault ≡ 0 →
     frames_from node_reader 4 (at_end 0 refusal.TreeText) (n - k) k n s
-    ≡ frames_from node_reader 4 (at_end 0 refusal.TreeText) (n - (k + 1)) (k + 1) n (take (length s - 9) (drop 9 s))
+    ≡ frames_from node_reader 4 (at_end 0 refusal.TreeText) (n - (k + 1)) (k + 1) n (rest 9 s)
 nodes_on n k s lt e = frames_on node_reader 4 (at_end 0 refusal.TreeText) n k n s lt (sym (node_fine n s e).1) refl
 
 -- node k stored behind the nodes before it
 pub node_put :
-    (t xs ys : List ℕ) (k at : ℕ) (v : Node) {zs : List ℕ} → at ≡ 5 + 9 * k → ys ≡ sets xs 0 (bytes_in k t) → 3 * k + 3 ≤ length ys →
-    v ≡ node_in (take (length t - at) (drop at t)) →
-    zs ≡ put_at ys (3 * k) (node_bytes v) → zs ≡ sets xs 0 (bytes_in (k + 1) t)
-node_put t xs ys k at v e y room is z =
+    (t xs ys : List ℕ) (k : ℕ) (v : Node) {zs : List ℕ} → ys ≡ sets xs 0 (bytes_in k t) → 3 * k + 3 ≤ length ys →
+    v ≡ node_in (rest (5 + 9 * k) t) → zs ≡ put_at ys (3 * k) (node_bytes v) → zs ≡ sets xs 0 (bytes_in (k + 1) t)
+node_put t xs ys k v y room is z =
     join_next (λ i. node_bytes (node_in (drop (5 + 9 * i) t))) 3 (λ i. refl) xs 0 (3 * k) k (omega arith)
     (z
-    ∙ rw (leb_yes (3 * k + 3) (length ys) room, is, rest_is at t) (ap (λ (i : ℕ). sets ys (3 * k) (node_bytes (node_in (drop i t)))) e)
-    ∙ ap (λ (l : List ℕ). sets l (3 * k) (node_bytes (node_in (drop (5 + 9 * k) t)))) y)
+    ∙ rw (leb_yes (3 * k + 3) (length ys) room, is, rest_is (5 + 9 * k) t)
+    (ap (λ (l : List ℕ). sets l (3 * k) (node_bytes (node_in (drop (5 + 9 * k) t)))) y))
 
 -- what is answered, and what is left in the buffer
 module _ (t xs : List ℕ) where
-  abbrev ReadAnswers : TreeRead → List ℕ → Type 0
+  abbrev ReadAnswers : Result ℕ Refusal → List ℕ → Type 0
   ReadAnswers r ys = (tree_read_answer r ≡ read_tree t xs) × (ys ≡ read_tree_leaves t xs)
 
-  pub read_short : length xs < most_bytes → ReadAnswers (tree_read_lem.Refused refusal.Buffer) xs
+  pub read_short : length xs < most_bytes → ReadAnswers (Err refusal.Buffer) xs
   unfolding read_tree answered first unless filled
   read_short h = (rw (lt-leb most_bytes (length xs) h), rw (lt-leb most_bytes (length xs) h))
 
-  pub read_refused : most_bytes ≤ length xs → (r : Refusal) → refused 0 r ≡ read_nodes t → ReadAnswers (tree_read_lem.Refused r) xs
+  pub read_refused : most_bytes ≤ length xs → (r : Refusal) → refused 0 r ≡ read_nodes t → ReadAnswers (Err r) xs
   unfolding read_tree answered first unless filled
   read_refused h r e =
       (rw (le-leb most_bytes (length xs) h, ← e) (simp (some_number r)), rw (le-leb most_bytes (length xs) h, ← e) (simp (some_number r)))
@@ -94,7 +78,7 @@ module _ (t xs : List ℕ) where
         let l = ap length (one_text n t counted) ∙ text_length (bytes_in n t) in
         (omega (arith, l, d), omega (arith, counted.most))
 
-    pub read_done : most_bytes ≤ length xs → ReadAnswers (tree_read_lem.Nodes n) (sets xs 0 (bytes_in n t))
+    pub read_done : most_bytes ≤ length xs → ReadAnswers (Ok n) (sets xs 0 (bytes_in n t))
     read_done h =
         let is = reads_whole t n xs (sym e) h in
         let long : length (bytes_in n t) ≤ length xs = omega (arith, bytes_length n t, read_room.1) in
@@ -113,7 +97,7 @@ module _ (bs : List ℕ) where
   length_fault = unless (legal_length (length bs)) refusal.Shape
 
   module _ (xs : List ℕ) where
-    abbrev Answers : Written → List ℕ → Type 0
+    abbrev Answers : Result ℕ Refusal → List ℕ → Type 0
     Answers r ys = (written_answer r ≡ write_tree bs xs) × (ys ≡ write_tree_leaves bs xs)
 
     -- the two parts stored one after the other
@@ -124,14 +108,14 @@ module _ (bs : List ℕ) where
     unfolding tree_text
     tree_put = sym (sets_append xs 0 (tree_head_text nodes) (join_below nodes node_text_lem))
 
-    pub tree_refused : legal_length (length bs) ≡ false → Answers (written.Refused refusal.Shape) xs
+    pub tree_refused : legal_length (length bs) ≡ false → Answers (Err refusal.Shape) xs
     unfolding write_tree unless
     tree_refused e = write_refused length_fault (tree_text bs) xs refusal.Shape (rw e)
 
-    pub tree_short : legal_length (length bs) ≡ true → length xs < 5 + 9 * nodes → Answers (written.Refused refusal.Buffer) xs
+    pub tree_short : legal_length (length bs) ≡ true → length xs < 5 + 9 * nodes → Answers (Err refusal.Buffer) xs
     unfolding write_tree unless
     tree_short e h = write_short length_fault (tree_text bs) xs (rw e) (rw (text_length bs) h)
 
-    pub tree_written_lem : legal_length (length bs) ≡ true → 5 + 9 * nodes ≤ length xs → Answers (written.Length (5 + 9 * nodes)) put
+    pub tree_written_lem : legal_length (length bs) ≡ true → 5 + 9 * nodes ≤ length xs → Answers (Ok (5 + 9 * nodes)) put
     unfolding write_tree unless
     tree_written_lem e h = rw (tree_put, ← text_length bs) (write_done length_fault (tree_text bs) xs (rw e) (rw (text_length bs) h))

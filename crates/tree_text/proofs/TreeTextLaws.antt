@@ -13,7 +13,6 @@ use lib.Seq.{drop-drop}
 use Rattle.network.specs.Mask.{join_below}
 use Rattle.network.proofs.Booleans.{by_test, and_left, and_right, and_make, leb_yes, leb_no, leb_is, eqb_is, differs}
 use Rattle.network.proofs.JoinLaws.{join_cong, join_length, drop_to_piece}
-use Rattle.plan.specs.declared.Refusal.{Refusal}
 use Rattle.plan.specs.declared.Refusal.TheVariants as refusal
 use Rattle.plan.specs.Refusal.{refusal_number}
 use Rattle.plan.specs.Answer.{Answer, fine, refused}
@@ -23,18 +22,14 @@ use Rattle.frame.specs.Frame.{Bytes}
 use Rattle.frame.specs.ReadFrame.{frame_length, value_at, whole}
 use Rattle.frame.specs.Texts.{frame_fault, at_end}
 use Rattle.frame.proofs.FrameLaws.{bytes, bytes_append, value_back, whole_back, frame_behind, whole_said}
-use Rattle.plan.proofs.RefusalLaws.{no_refusal, refusal_one_number}
 use Rattle.plan.proofs.AnswerLaws.{unless_of}
 use Rattle.frame.proofs.RunLaws.{frame_fault_of, then_each, run_each, frame_read, frame_read_is, at_end_lem, at_end_is, then_goes, then_fine, run_back, run_invariant}
 use Rattle.tree.specs.Nodes.{node_count, most_bytes, legal_length}
 use Rattle.tree.specs.Parts.{node_bytes, node_at}
 use Rattle.tree.specs.Parts.{most_nodes}
 use Rattle.tree.proofs.NodeLaws.{nodes_length, node_of_bytes, bytes_of_nodes, legal_is, legal_make}
-use Rattle.tree_text.specs.declared.TreeRead.{TreeRead}
-use Rattle.tree_text.specs.declared.TreeRead.TheVariants as tree_read_lem
 use Rattle.tree_text.specs.TreeText.{tree_head_text, tree_text}
 use Rattle.tree_text.specs.WriteTree.{node_text}
-use Rattle.tree_text.specs.TreeRead.{tree_read_answer}
 use Rattle.tree_text.specs.WriteTree.{write_tree}
 use Rattle.tree_text.specs.ReadTree.{read_tree, read_tree_head, read_node, read_behind, read_nodes, node_in, bytes_in}
 
@@ -309,13 +304,3 @@ room_of t xs other =
     by_cases (dec_lt (length xs) most_bytes)
     (λ short. absurd (other (ap (λ (x : Answer ℕ). x.fault) (reads_without_room t xs short))))
     (λ long. omega arith)
-
--- ---- one answer for each fault and value
-
-pub nodes_are : (r : TreeRead) (n : ℕ) → tree_read_answer r ≡ fine n → r ≡ tree_read_lem.Nodes n
-nodes_are (tree_read_lem.Nodes m) n e = ap tree_read_lem.Nodes (ap (λ (x : Answer ℕ). x.value) e)
-nodes_are (tree_read_lem.Refused k) n e = absurd (no_refusal k (ap (λ (x : Answer ℕ). x.fault) e))
-
-pub refusal_is : (r : TreeRead) (k : Refusal) → tree_read_answer r ≡ refused 0 k → r ≡ tree_read_lem.Refused k
-refusal_is (tree_read_lem.Nodes m) k e = absurd (no_refusal k (sym (ap (λ (x : Answer ℕ). x.fault) e)))
-refusal_is (tree_read_lem.Refused j) k e = ap tree_read_lem.Refused (refusal_one_number j k (ap (λ (x : Answer ℕ). x.fault) e))

@@ -9,6 +9,7 @@ use native.Mathlib.Omega.{arith}
 use native.Mathlib.Decide.{dec_lt}
 use lib.ListN.{length, drop, take, replicate}
 use lib.Seq.{take_at}
+use Rattle.std.specs.Prelude.{Result, Ok, Err}
 use Rattle.plan.specs.declared.Refusal.{Refusal}
 use Rattle.plan.specs.declared.Refusal.TheVariants as refusal
 use Rattle.plan.specs.Answer.{Answer, fine, refused}
@@ -16,15 +17,14 @@ use Rattle.plan.specs.Faults.{filled}
 use Rattle.frame.specs.Frame.{Bytes}
 use Rattle.frame.specs.ReadFrame.{value_at}
 use Rattle.frame.proofs.RunLaws.{filled_is, filled_front}
+use Rattle.frame.proofs.ReadingLaws.{answer_ok, answer_err}
 use Rattle.tree.specs.Nodes.{node_count, most_bytes, legal_length}
 use Rattle.tree.proofs.NodeLaws.{legal_is}
-use Rattle.tree_text.specs.declared.TreeRead.{TreeRead}
-use Rattle.tree_text.specs.declared.TreeRead.TheVariants as tree_read_lem
 use Rattle.tree_text.specs.TreeText.{tree_text}
 use Rattle.tree_text.specs.TreeRead.{tree_read_answer}
 use Rattle.tree_text.specs.WriteTree.{write_tree, write_tree_leaves}
 use Rattle.tree_text.specs.ReadTree.{read_nodes, bytes_in, read_tree, read_tree_leaves}
-use Rattle.tree_text.proofs.TreeTextLaws.{reads, one_text, bytes_length, bytes_in_bytes, reads_legal, counts_back, bytes_back, writes, reads_whole, text_length, nodes_refused, reads_with_room, reads_without_room, room_of, nodes_are, refusal_is}
+use Rattle.tree_text.proofs.TreeTextLaws.{reads, one_text, bytes_length, bytes_in_bytes, reads_legal, counts_back, bytes_back, writes, reads_whole, text_length, nodes_refused, reads_with_room, reads_without_room, room_of}
 
 -- A text reads as a tree of these bytes exactly where it is their text and they have a legal length. (`Bytes`: every entry is below 256.)
 pub read_exactly :
@@ -133,12 +133,12 @@ text_refused_exactly t xs = (
 )
 
 -- what `read_tree` hands back, by its promise, is that answer
-module _ (t xs : List ℕ) (r : TreeRead) (promise : tree_read_answer r ≡ read_tree t xs) where
-  pub handed_nodes : (n : ℕ) → (r ≡ tree_read_lem.Nodes n) ↔ (read_tree t xs ≡ fine n)
-  handed_nodes n = (λ e. sym promise ∙ ap tree_read_answer e, λ e. nodes_are r n (promise ∙ e))
+module _ (t xs : List ℕ) (r : Result ℕ Refusal) (promise : tree_read_answer r ≡ read_tree t xs) where
+  pub handed_nodes : (n : ℕ) → (r ≡ Ok n) ↔ (read_tree t xs ≡ fine n)
+  handed_nodes n = (λ e. sym promise ∙ ap tree_read_answer e, λ e. answer_ok 0 r n (promise ∙ e))
 
-  pub handed_refusal : (k : Refusal) → (r ≡ tree_read_lem.Refused k) ↔ (read_tree t xs ≡ refused 0 k)
-  handed_refusal k = (λ e. sym promise ∙ ap tree_read_answer e, λ e. refusal_is r k (promise ∙ e))
+  pub handed_refusal : (k : Refusal) → (r ≡ Err k) ↔ (read_tree t xs ≡ refused 0 k)
+  handed_refusal k = (λ e. sym promise ∙ ap tree_read_answer e, λ e. answer_err 0 r k (ap (λ (x : Answer ℕ). x.fault) (promise ∙ e)))
 
 -- ---- writing and reading back
 

@@ -1,7 +1,7 @@
 -- The invariant: what is left to read from here says what the whole says. Only the checker need believe this file.
 use mathlib.Core.Path.{◌≡◌}
 use mathlib.Core.List.{List}
-use Prim.Native.Nat.{ℕ, ◌-◌, ◌≤◌}
+use Prim.Native.Nat.{ℕ, ◌-◌}
 use Rattle.plan.specs.declared.Plan.{Plan}
 use Rattle.plan.specs.declared.Refusal.TheVariants as refusal
 use Rattle.plan.specs.Answer.{Answer}
@@ -16,7 +16,4 @@ end = at_end zero_plan refusal.PlanText
 
 abbrev pub invariant-loop-j : goal.invariant-loop-j
 invariant-loop-j l =
-    (l.j ≤ l.n) × (frames_from read_constraint 7 end l.n 0 l.initial.so_far l.s ≡ frames_from read_constraint 7 end (l.n - l.j) l.j l.so_far l.rest)
-
-abbrev pub decreases-loop-j : goal.decreases-loop-j
-decreases-loop-j l = l.n - l.j
+    frames_from read_constraint 7 end l.n 0 l.initial.so_far l.s ≡ frames_from read_constraint 7 end (l.n - l.j) l.j l.so_far l.rest

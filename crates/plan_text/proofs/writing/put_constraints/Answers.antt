@@ -1,5 +1,6 @@
 -- The invariant: what was stored is the text of the entries passed. Only the checker need believe this file.
-use mathlib.Core.Path.{◌≡◌, refl, ◌∙◌}
+use mathlib.Core.Path.{◌≡◌, refl}
+use Prim.Native.Nat.{◌+◌, ◌*◌}
 use native.Mathlib.Omega.{arith}
 use borrow.Author.Rules.{rules}
 use Rattle.network.specs.Mask.{join_below}
@@ -14,17 +15,12 @@ loop-j-init c = search rules
 pub loop-j-preserved : goal.loop-j-preserved
 loop-j-preserved c =
     let a = c.args in
-    let l = c.loop-j in (
-      search rules,
-      search rules,
-      c.put_constraint.auto.out ∙ l.invariant.2,
-      join_next (constraint_text_lem a.p) 15 (λ j. refl) a.out.now a.from l.at l.j l.invariant.1
-          (rw (c.constraint_at.ensures, l.invariant.3) at c.put_constraint.ensures),
-    )
+    let l = c.loop-j in
+    join_next (constraint_text_lem a.p) 15 (λ k. refl) a.out.now a.from (a.from + 15 * l.j) l.j refl
+    (rw (c.constraint_at.ensures, l.invariant) at c.put_constraint.ensures)
 
 pub returns : goal.returns
 returns c =
-    let a = c.args in
     let l = c.loop-j in
-    let e : a.p.constraints ≡ l.j = omega arith in
-    rw e l.invariant.3
+    let e : c.args.p.constraints ≡ l.j = omega arith in
+    rw e l.invariant

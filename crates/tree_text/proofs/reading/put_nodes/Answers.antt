@@ -1,5 +1,5 @@
 -- The invariant: what was stored are the bytes of the nodes passed. Only the checker need believe this file.
-use mathlib.Core.Path.{◌≡◌, ◌∙◌}
+use mathlib.Core.Path.{◌≡◌}
 use native.Mathlib.Omega.{arith}
 use Rattle.network.specs.Mask.{join_below}
 use Rattle.tree_text.proofs.CodeLaws.{node_put}
@@ -13,17 +13,11 @@ loop-k-init c = search rules
 pub loop-k-preserved : goal.loop-k-preserved
 loop-k-preserved c =
     let a = c.args in
-    let l = c.loop-k in (
-      search rules,
-      search rules,
-      c.put_node.auto.bytes ∙ l.invariant.2,
-      node_put a.text.now a.out.now l.out l.k l.at _ l.invariant.1 l.invariant.3 (search rules)
-          c.node_in.ensures c.put_node.ensures,
-    )
+    let l = c.loop-k in
+    node_put a.text.now a.out.now l.out l.k _ l.invariant (search rules) c.node_in.ensures c.put_node.ensures
 
 pub returns : goal.returns
 returns c =
-    let a = c.args in
     let l = c.loop-k in
-    let e : a.count ≡ l.k = omega arith in
-    rw e l.invariant.3
+    let e : c.args.count ≡ l.k = omega arith in
+    rw e l.invariant

@@ -9,14 +9,12 @@ use Rattle.tree_text.proofs.reading.read_nodes.Goals as goal
 pub returns-in_default : goal.returns-in_default
 unfolding read_nodes
 returns-in_default c =
-    let s = c.args.text.now in
-    then_stop (read_tree_head s) _ c.in_default.field-0 c.read_head-head.ensures (ap (λ r. (tree_read_answer r).fault) c.in_default.is)
+    ap tree_read_answer c.in_default.is
+    ∙ then_stop (read_tree_head c.args.text.now) _ c.in_default.field-0 c.in_default.ensures refl
 
 pub slice_bounds-read_behind-count : goal.slice_bounds-read_behind-count
 unfolding read_tree_head
-slice_bounds-read_behind-count c =
-    let s = c.args.text.now in
-    read_long _ _ _ 4 2 s _ _ c.read_head-head.ensures (ap (λ r. (tree_read_answer r).fault) c.in-Nodes.is)
+slice_bounds-read_behind-count c = read_long _ _ _ 4 2 c.args.text.now _ _ c.in-Ok.ensures refl
 
 pub slice_bounds-read_behind-start : goal.slice_bounds-read_behind-start
 slice_bounds-read_behind-start c = slice_bounds-read_behind-count c
@@ -25,5 +23,4 @@ pub returns : goal.returns
 unfolding read_nodes
 returns c =
     let s = c.args.text.now in
-    rw (rest_is 5 s) at c.read_behind.ensures
-    ∙ sym (then_on (read_tree_head s) _ (sym (ap tree_read_answer c.in-Nodes.is) ∙ c.read_head-head.ensures) refl)
+    rw (rest_is 5 s) at c.read_behind.ensures ∙ sym (then_on (read_tree_head s) _ c.in-Ok.ensures refl)
