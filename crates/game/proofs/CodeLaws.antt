@@ -8,7 +8,6 @@ use Prim.Native.Nat.{ℕ, ◌+◌, ◌-◌, ◌*◌, ◌%◌, ◌^◌, ◌≤◌
 use native.Mathlib.Omega.{arith}
 use native.Mathlib.Decide.{dec_lt}
 use lib.Dec.{ltb}
-use lib.Pow.{pow_pos}
 use lib.ListN.{length, get_or, set, length-set}
 use lib.Seq.{get_or-set_same, get_or-set_other, ext_get_or}
 use Rattle.network.specs.Mask.{mask}
@@ -24,15 +23,10 @@ pub all_points : (n : ℕ) → 8 ≤ n → mask 8 (λ x. ltb x n) ≡ 255
 all_points n h = mask_cong 8 (λ x. ltb x n) (λ x. true) (λ x lt. ltb_yes x n (omega arith)) ∙ mask_full 8
 
 -- as the code shifts it
-pub record FirstPoints (n : ℕ) : Type 0 where
-  pub some : 1 ≤ 1 * 2 ^ n % 256
-  pub is : 1 * 2 ^ n % 256 - 1 ≡ mask 8 (λ x. ltb x n)
-
-pub first_points : (n : ℕ) → n < 8 → FirstPoints n
+pub first_points : (n : ℕ) → n < 8 → 1 * 2 ^ n % 256 - 1 ≡ mask 8 (λ x. ltb x n)
 first_points n h =
-    let p = pow_pos n in
     let e = one_shifted n h in
-    record { some = omega arith; is = rw e (sym (mask_first n 8 (omega arith) ∙ mask_full n)) }
+    rw e (sym (mask_first n 8 (omega arith) ∙ mask_full n))
 
 -- ---- an array filled from the front
 

@@ -12,6 +12,7 @@ use tree::Node;
 
 // Where the game stands on a path: the first slot still open, the points not yet performed, the points performed on the path above (card 3's
 // running value), the letters set true, and the slot of each point that is performed.
+// `Proper` is no invariant of it: it ties a position to a plan, and `after`, `legal` and `keeps_so_far` promise their answers of any position.
 #[derive(Clone, Copy)]
 pub struct Position {
     pub earliest: u16,
@@ -60,12 +61,10 @@ pub fn slots_after(slots: [u8; 8], points: u8, slot: u8) -> [u8; 8]
     ensures { result ≡ slots_after slots points slot }
 {
     let mut out = slots;
-    let mut x: u8 = 0;
-    while x < 8 {
+    for x in 0..8u8 {
         if masks::has(points, x) {
             out[x as usize] = slot;
         }
-        x += 1;
     }
     out
 }

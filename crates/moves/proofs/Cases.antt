@@ -3,6 +3,7 @@ use mathlib.Core.Path.{◌≡◌, refl}
 use mathlib.Core.List.{List, [], ◌∷◌}
 use Prim.Native.Nat.{ℕ, zero, suc}
 use lib.ListN.{replicate}
+use Rattle.std.specs.Prelude.{Option, Some, None}
 use Rattle.network.specs.Mask.{bit, mask, first_below, submask}
 use Rattle.network.specs.Below.{rank}
 use Rattle.plan.specs.declared.Plan.{Plan}
@@ -11,12 +12,10 @@ use Rattle.tree.specs.declared.Node.{Node}
 use Rattle.game.specs.declared.Position.{Position}
 use Rattle.game.specs.Carried.{start_position}
 use Rattle.game.proofs.Cases.{two_points, node, position, midway}
-use Rattle.moves.specs.declared.Step.{Step}
-use Rattle.moves.specs.declared.Step.TheVariants as step
 use Rattle.moves.specs.Moves.{from_slot, first_step, next_step}
 
-abbrev try : ℕ → ℕ → ℕ → Step
-try t ps ch = step.Try (node t ps ch)
+abbrev try : ℕ → ℕ → ℕ → Option Node
+try t ps ch = Some (node t ps ch)
 
 -- every point may be performed in every slot
 abbrev any_time : List ℕ
@@ -24,21 +23,21 @@ any_time = replicate 8 0
 
 -- ---- from the start, no point waiting: slots 0 to 2, points 0 and 1, one decision at point 1
 
-abbrev next : ℕ → ℕ → ℕ → Step
+abbrev next : ℕ → ℕ → ℕ → Option Node
 next t ps ch = next_step two_points (start_position two_points) any_time (node t ps ch)
 
 -- the first; more points, more choices, more points without choices, a later slot, the end
 pub steps :
     (first_step two_points (start_position two_points) any_time ≡ try 0 1 0) × (next 0 1 0 ≡ try 0 2 0) × (next 0 2 0 ≡ try 0 2 2)
-    × (next 0 2 2 ≡ try 0 3 0) × (next 1 3 2 ≡ try 2 1 0) × (next 2 3 2 ≡ step.End)
+    × (next 0 2 2 ≡ try 0 3 0) × (next 1 3 2 ≡ try 2 1 0) × (next 2 3 2 ≡ None)
 unfolding bit mask first_below submask rank from_slot next_step
 steps = (refl, refl, refl, refl, refl, refl)
 
 -- the moves from a step on to the end, n of them at most
-unfoldable pub walk : ℕ → Plan → Position → List ℕ → Step → List Node
+unfoldable pub walk : ℕ → Plan → Position → List ℕ → Option Node → List Node
 walk zero p at soonest t = []
-walk (suc n) p at soonest step.End = []
-walk (suc n) p at soonest (step.Try v) = v ∷ walk n p at soonest (next_step p at soonest v)
+walk (suc n) p at soonest None = []
+walk (suc n) p at soonest (Some v) = v ∷ walk n p at soonest (next_step p at soonest v)
 
 abbrev timely : Plan → Position → List ℕ → List Node
 timely p at soonest = walk 20 p at soonest (first_step p at soonest)
@@ -119,7 +118,7 @@ pub all_points :
     (next_step widest (start_position widest) any_time (node 0 255 62) ≡ try 0 255 63)
     × (next_step widest (start_position widest) any_time (node 0 127 31) ≡ try 0 128 0)
     × (next_step widest (start_position widest) any_time (node 0 255 63) ≡ try 1 1 0)
-    × (next_step widest (start_position widest) any_time (node 63 255 63) ≡ step.End)
+    × (next_step widest (start_position widest) any_time (node 63 255 63) ≡ None)
 unfolding bit mask first_below submask rank from_slot next_step
 all_points = (refl, refl, refl, refl)
 

@@ -8,6 +8,7 @@ use Prim.Native.Nat.{ℕ, suc, ◌+◌, ◌-◌, ◌*◌, ◌≤◌, ◌<◌}
 use native.Mathlib.Omega.{arith}
 use native.Mathlib.Decide.{dec_le, ℕ_discrete}
 use lib.Dec.{leb}
+use Rattle.std.specs.Prelude.{Option, Some, None}
 use Rattle.network.specs.Mask.{bit}
 use Rattle.network.specs.Network.{Network, slots_in}
 use Rattle.network.specs.Game.{State, Move, Legal}
@@ -27,8 +28,6 @@ use Rattle.tree.specs.Parts.{move_of}
 use Rattle.game.specs.declared.Position.{Position}
 use Rattle.game.specs.Position.{state_of, Proper}
 use Rattle.game.proofs.LegalLaws.{choices_settled}
-use Rattle.moves.specs.declared.Step.{Step}
-use Rattle.moves.specs.declared.Step.TheVariants as step
 use Rattle.moves.specs.Moves.{FirstOf, Timely, ready_at, from_slot, first_step, next_step}
 use Rattle.moves.proofs.StepLaws.{
   choices_behind,
@@ -61,16 +60,16 @@ before_choices (inr (e, inr (r, lt))) t q = lt
 -- ---- the measure of a loop that steps through the moves
 
 -- a number that falls with every step
-abbrev pub moves_ahead : Step → ℕ
-moves_ahead step.End = 0
-moves_ahead (step.Try v) = suc ((63 - v.slot) * 65536 + (255 - v.points) * 256 + (255 - v.choices))
+abbrev pub moves_ahead : Option Node → ℕ
+moves_ahead None = 0
+moves_ahead (Some v) = suc ((63 - v.slot) * 65536 + (255 - v.points) * 256 + (255 - v.choices))
 
 record Bytes (v : Node) : Type 0 where
   slot_small : v.slot ≤ 63
   points_small : v.points < 256
   choices_small : v.choices < 256
 
-fewer_ahead : (v w : Node) → Bytes v → Bytes w → Before (move_of v) (move_of w) → moves_ahead (step.Try w) < moves_ahead (step.Try v)
+fewer_ahead : (v w : Node) → Bytes v → Bytes w → Before (move_of v) (move_of w) → moves_ahead (Some w) < moves_ahead (Some v)
 fewer_ahead v w a b (inl lt) = omega arith
 fewer_ahead v w a b (inr (e, inl lt)) = omega arith
 fewer_ahead v w a b (inr (e, inr (q, lt))) = omega arith
@@ -287,10 +286,10 @@ module _ (p : Plan) (wf : WellFormed p) (at : Position) (ok : Proper p at) (soon
         ))
         (next_inside_cases (settled_by p v.points) (settled_byte v.points) v.choices (choices_settled p wf s (move_of v) lg))
 
-    pub ahead_falls : moves_ahead (next_step p at soonest v) < moves_ahead (step.Try v)
+    pub ahead_falls : moves_ahead (next_step p at soonest v) < moves_ahead (Some v)
     unfolding FirstOf
     ahead_falls = falls (next_step p at soonest v) next_step_is
       where
-        falls : (t : Step) → FirstOf net s Behind t → moves_ahead t < moves_ahead (step.Try v)
-        falls step.End f = omega arith
-        falls (step.Try w) f = fewer_ahead v w (legal_bytes v lg) (legal_bytes w f.0) f.1.1
+        falls : (t : Option Node) → FirstOf net s Behind t → moves_ahead t < moves_ahead (Some v)
+        falls None f = omega arith
+        falls (Some w) f = fewer_ahead v w (legal_bytes v lg) (legal_bytes w f.0) f.1.1

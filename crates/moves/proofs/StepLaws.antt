@@ -7,6 +7,7 @@ use Prim.Native.Nat.{ℕ, zero, suc, ◌+◌, ◌-◌, ◌≤◌, ◌<◌}
 use native.Mathlib.Omega.{arith}
 use native.Mathlib.Decide.{dec_lt}
 use native.Mathlib.Nat.{not-suc-le-zero}
+use Rattle.std.specs.Prelude.{Some, None}
 use Rattle.network.specs.Mask.{first_below}
 use Rattle.network.proofs.Booleans.{by_test, clash, not_true, not_false, leb_yes, leb_no, eqb_is, eqb_yes, eqb_no, differs}
 use Rattle.network.proofs.BelowLaws.{before_first, first_le}
@@ -15,7 +16,6 @@ use Rattle.plan.specs.declared.Plan.{Plan}
 use Rattle.plan.specs.Settled.{settled_by}
 use Rattle.tree.specs.declared.Node.{Node}
 use Rattle.game.specs.declared.Position.{Position}
-use Rattle.moves.specs.declared.Step.TheVariants as step
 use Rattle.moves.specs.Moves.{ready_at, some_ready, from_slot, next_step}
 
 -- ---- the first number that has f, where it is known; where none has it
@@ -74,7 +74,7 @@ module _ (p : Plan) (at : Position) (soonest : List ℕ) where
   idle_at slot t i j lt = rw (eqb_yes (ready_at at soonest (slot + j)) 0 (i.none (slot + j) (omega arith) lt))
 
   -- past the horizon
-  pub none_ready : (slot t : ℕ) → Idle at soonest slot t → p.horizon < t → from_slot p at soonest slot ≡ step.End
+  pub none_ready : (slot t : ℕ) → Idle at soonest slot t → p.horizon < t → from_slot p at soonest slot ≡ None
   unfolding from_slot
   none_ready slot t i past =
       let e : first_below (suc p.horizon - slot) (ready_from slot) ≡ suc p.horizon - slot
@@ -84,7 +84,7 @@ module _ (p : Plan) (at : Position) (soonest : List ℕ) where
   -- the first slot in which some are
   pub first_ready :
       (slot t : ℕ) → Idle at soonest slot t → t ≤ p.horizon → ¬ (ready_at at soonest t ≡ 0) →
-      from_slot p at soonest slot ≡ step.Try (record { slot = t; points = next_inside (ready_at at soonest t) 0; choices = 0 })
+      from_slot p at soonest slot ≡ Some (record { slot = t; points = next_inside (ready_at at soonest t) 0; choices = 0 })
   unfolding from_slot
   first_ready slot t i within some =
       let from = i.from in
@@ -116,13 +116,13 @@ module _ (p : Plan) (at : Position) (soonest : List ℕ) where
 
   pub more_choices :
       (v : Node) → ¬ (choices_behind p v ≡ 0) →
-      next_step p at soonest v ≡ step.Try (record { slot = v.slot; points = v.points; choices = choices_behind p v })
+      next_step p at soonest v ≡ Some (record { slot = v.slot; points = v.points; choices = choices_behind p v })
   unfolding next_step
   more_choices v n = rw (eqb_no (choices_behind p v) 0 n)
 
   pub other_points :
       (v : Node) → choices_behind p v ≡ 0 → ¬ (points_behind at soonest v ≡ 0) →
-      next_step p at soonest v ≡ step.Try (record { slot = v.slot; points = points_behind at soonest v; choices = 0 })
+      next_step p at soonest v ≡ Some (record { slot = v.slot; points = points_behind at soonest v; choices = 0 })
   unfolding next_step
   other_points v e n = rw (eqb_yes (choices_behind p v) 0 e, eqb_no (points_behind at soonest v) 0 n)
 

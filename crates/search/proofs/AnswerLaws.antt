@@ -10,6 +10,7 @@ use native.Mathlib.Decide.{dec_lt}
 use lib.Dec.{leb, eqb}
 use lib.ListN.{length, take, drop, replicate, length-append, length-drop, length-replicate}
 use lib.Seq.{drop-append_seam, take_at, drop_at}
+use Rattle.std.specs.Prelude.{Result, Ok, Err}
 use Rattle.network.specs.Network.{Network}
 use Rattle.network.specs.IsNetwork.{IsNetwork}
 use Rattle.network.specs.Strategy.{DynamicallyConsistent}
@@ -37,8 +38,6 @@ use Rattle.tree.specs.Trees.{tree_bytes, Describes}
 use Rattle.tree.proofs.NodeLaws.{IsLegal, legal_is}
 use Rattle.tree.proofs.TreeLaws.{tree_length}
 use Rattle.checker.proofs.FaultLaws.{described_legal}
-use Rattle.search.specs.declared.Searched.{Searched}
-use Rattle.search.specs.declared.Searched.TheVariants as searched
 use Rattle.search.specs.Search.{search_fault, search_answer, search_leaves}
 use Rattle.search.specs.Searched.{searched_answer}
 
@@ -214,32 +213,32 @@ module _ (p : Plan) (xs : List ℕ) where
 
 -- ---- what an answer says
 
-refused_so : (r : Searched) (f : Refusal) → (searched_answer r).fault ≡ refusal_number f → r ≡ searched.Refused f
-refused_so (searched.Nodes n) f e = absurd (no_refusal f (sym e))
-refused_so (searched.Refused q) f e = ap searched.Refused (refusal_one_number q f e)
+refused_so : (r : Result ℕ Refusal) (f : Refusal) → (searched_answer r).fault ≡ refusal_number f → r ≡ Err f
+refused_so (Ok n) f e = absurd (no_refusal f (sym e))
+refused_so (Err q) f e = ap Err (refusal_one_number q f e)
 
-nodes_so : (r : Searched) → (searched_answer r).fault ≡ 0 → r ≡ searched.Nodes (searched_answer r).value
-nodes_so (searched.Nodes n) e = refl
-nodes_so (searched.Refused f) e = absurd (no_refusal f e)
+nodes_so : (r : Result ℕ Refusal) → (searched_answer r).fault ≡ 0 → r ≡ Ok (searched_answer r).value
+nodes_so (Ok n) e = refl
+nodes_so (Err f) e = absurd (no_refusal f e)
 
-module _ (r : Searched) {a : Answer ℕ} (e : searched_answer r ≡ a) where
+module _ (r : Result ℕ Refusal) {a : Answer ℕ} (e : searched_answer r ≡ a) where
   said_fault : (searched_answer r).fault ≡ a.fault
   said_fault = ap (λ (x : Answer ℕ). x.fault) e
 
   said_value : (searched_answer r).value ≡ a.value
   said_value = ap (λ (x : Answer ℕ). x.value) e
 
-  pub said_refused : (f : Refusal) → (r ≡ searched.Refused f) ↔ (a.fault ≡ refusal_number f)
+  pub said_refused : (f : Refusal) → (r ≡ Err f) ↔ (a.fault ≡ refusal_number f)
   said_refused f = (
-    λ q. sym said_fault ∙ ap (λ (x : Searched). (searched_answer x).fault) q,
+    λ q. sym said_fault ∙ ap (λ (x : Result ℕ Refusal). (searched_answer x).fault) q,
     λ h. refused_so r f (said_fault ∙ h),
   )
 
-  pub said_nodes : (n : ℕ) → (r ≡ searched.Nodes n) ↔ ((a.fault ≡ 0) × (a.value ≡ n))
+  pub said_nodes : (n : ℕ) → (r ≡ Ok n) ↔ ((a.fault ≡ 0) × (a.value ≡ n))
   said_nodes n = (
     λ q. (
-      sym said_fault ∙ ap (λ (x : Searched). (searched_answer x).fault) q,
-      sym said_value ∙ ap (λ (x : Searched). (searched_answer x).value) q,
+      sym said_fault ∙ ap (λ (x : Result ℕ Refusal). (searched_answer x).fault) q,
+      sym said_value ∙ ap (λ (x : Result ℕ Refusal). (searched_answer x).value) q,
     ),
-    λ h. nodes_so r (said_fault ∙ h.0) ∙ ap searched.Nodes (said_value ∙ h.1),
+    λ h. nodes_so r (said_fault ∙ h.0) ∙ ap Ok (said_value ∙ h.1),
   )

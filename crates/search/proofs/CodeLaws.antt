@@ -6,6 +6,7 @@ use native.Mathlib.Omega.{arith}
 use borrow.Rule.Slice.PartMut.{mid_of, put_mid, mid_len, Post-is}
 use lib.ListN.{length, take, drop, replicate, length-append, length-drop}
 use lib.Seq.{length-take-le, drop_at, take-append-le}
+use Rattle.std.specs.Prelude.{Some, None}
 use Rattle.network.specs.Network.{Network}
 use Rattle.network.specs.Game.{start}
 use Rattle.network.specs.Tree.{Tree}
@@ -30,7 +31,6 @@ use Rattle.tree.specs.Nodes.{most_bytes, overwritten}
 use Rattle.tree.specs.Parts.{most_nodes}
 use Rattle.tree.specs.Trees.{tree_bytes}
 use Rattle.tree.proofs.TreeLaws.{tree_length}
-use Rattle.turns.specs.declared.Turn.TheVariants as turn
 use Rattle.search.specs.Search.{search_fault, search_answer, search_leaves}
 use Rattle.turns.specs.Turns.{most, Leaves, Finds, first_tree_at, AgentFinds}
 use Rattle.turns.proofs.BufferLaws.{same_length, front_is}
@@ -113,7 +113,7 @@ module _ (p : Plan) (xs : List ℕ) where
       -- ---- hopeless, or a tree
 
       pub turns_lost :
-          (es zs : List ℕ) → AgentFinds net (start net) turn.Lost lent es → zs ≡ replicate (length (take most_bytes (given es))) 0 →
+          (es zs : List ℕ) → AgentFinds net (start net) None lent es → zs ≡ replicate (length (take most_bytes (given es))) 0 →
           Said p xs (refused 0 refusal.Hopeless) (zs ++ drop most_bytes (given es))
       unfolding Finds
       turns_lost es zs found e =
@@ -122,7 +122,7 @@ module _ (p : Plan) (xs : List ℕ) where
             ap (λ (l : List ℕ). l ++ drop most_bytes (given es)) e ∙ all_cleared es (all_lent [] es found.1) ∙ sym (hopeless_leaves p xs f),
           )
 
-      module _ (n : ℕ) (es : List ℕ) (found : AgentFinds net (start net) (turn.Won n) lent es) where
+      module _ (n : ℕ) (es : List ℕ) (found : AgentFinds net (start net) (Some n) lent es) where
         pub tree_fits : n ≤ most_nodes
         tree_fits = let a = agent_fits net (start net) n lent es found in let f = start_fits p wf in omega arith
 

@@ -1,5 +1,4 @@
 -- Laws: the modules of this folder. Only the checker need believe them; SearchTheorems.antt has statements to read.
-pub mod BufferLaws
 pub mod AnswerLaws
 pub mod SearchTheorems
 pub mod CodeLaws

@@ -8,6 +8,7 @@ use Prim.Native.Nat.{ℕ, ◌-◌, ◌*◌, ◌≤◌, ◌<◌}
 use native.Mathlib.Omega.{arith}
 use lib.ListN.{length, take, drop, replicate}
 use lib.Seq.{take_at}
+use Rattle.std.specs.Prelude.{Result, Ok, Err}
 use Rattle.network.specs.Network.{Network}
 use Rattle.network.specs.Strategy.{DynamicallyConsistent}
 use Rattle.network.specs.Game.{start}
@@ -32,8 +33,6 @@ use Rattle.tree.specs.Trees.{tree_bytes}
 use Rattle.tree.proofs.TreeLaws.{same_bytes}
 use Rattle.checker.specs.Checker.{check_fault}
 use Rattle.checker.proofs.CheckerTheorems.{yes_exactly}
-use Rattle.search.specs.declared.Searched.{Searched}
-use Rattle.search.specs.declared.Searched.TheVariants as searched
 use Rattle.search.specs.Search.{search_fault, search_answer, search_leaves}
 use Rattle.search.specs.Searched.{searched_answer}
 use Rattle.search.proofs.AnswerLaws.{overwritten_past, overwritten_tail, overwritten_length, leaves_of, said_refused, said_nodes}
@@ -174,20 +173,20 @@ module _ (p : Plan) (xs : List ℕ) where
 
   -- ---- What the call hands back and leaves, by its promises.
 
-  module _ (r : Searched) (promised : searched_answer r ≡ search_answer p xs) where
+  module _ (r : Result ℕ Refusal) (promised : searched_answer r ≡ search_answer p xs) where
     -- a refusal exactly where its number is the fault
-    pub says_refused_exactly : (f : Refusal) → (r ≡ searched.Refused f) ↔ (search_fault p xs ≡ refusal_number f)
+    pub says_refused_exactly : (f : Refusal) → (r ≡ Err f) ↔ (search_fault p xs ≡ refusal_number f)
     unfolding answered
     says_refused_exactly f = said_refused r promised f
 
     -- so hopeless exactly where no strategy is dynamic and viable
     pub says_hopeless_exactly :
-        (r ≡ searched.Refused refusal.Hopeless) ↔ ((most_bytes ≤ length xs) × WellFormed p × (¬ DynamicallyConsistent net))
+        (r ≡ Err refusal.Hopeless) ↔ ((most_bytes ≤ length xs) × WellFormed p × (¬ DynamicallyConsistent net))
     says_hopeless_exactly = Iff.trans (says_refused_exactly refusal.Hopeless) hopeless_exactly
 
     -- a tree exactly where some is, and no count but its own
     pub says_nodes_exactly :
-        (n : ℕ) → (r ≡ searched.Nodes n)
+        (n : ℕ) → (r ≡ Ok n)
         ↔ ((n ≡ nodes net (first_tree net)) × (most_bytes ≤ length xs) × WellFormed p × DynamicallyConsistent net)
     unfolding answered
     says_nodes_exactly n = (
@@ -198,7 +197,7 @@ module _ (p : Plan) (xs : List ℕ) where
     )
 
     -- a tree that the checker accepts, of as many nodes as were answered
-    pub says_checked : (ys : List ℕ) → ys ≡ search_leaves p xs → (n : ℕ) → r ≡ searched.Nodes n → check_fault p (take (3 * n) ys) ≡ 0
+    pub says_checked : (ys : List ℕ) → ys ≡ search_leaves p xs → (n : ℕ) → r ≡ Ok n → check_fault p (take (3 * n) ys) ≡ 0
     says_checked ys left n e =
         let h = (says_nodes_exactly n).0 e in
         let fine = answered_exactly.1 (h.1, h.2, h.3) in

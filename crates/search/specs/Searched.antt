@@ -1,10 +1,8 @@
 -- Definitions: number and value of each case of what the search hands back. To be believed, for demand 3.
-use Rattle.std.specs.Prelude.{ℕ}
-use Rattle.plan.specs.Answer.{Answer, fine, refused}
-use Rattle.search.specs.declared.Searched.{Searched}
-use Rattle.search.specs.declared.Searched.TheVariants as searched
+use Rattle.std.specs.Prelude.{ℕ, Result}
+use Rattle.plan.specs.declared.Refusal.{Refusal}
+use Rattle.plan.specs.Answer.{Answer, answer_of}
 
 -- fault and value of an answer: the number of nodes
-abbrev pub searched_answer : Searched → Answer ℕ
-searched_answer (searched.Nodes n) = fine n
-searched_answer (searched.Refused r) = refused 0 r
+abbrev pub searched_answer : Result ℕ Refusal → Answer ℕ
+searched_answer r = answer_of 0 r

@@ -11,6 +11,7 @@ use native.Mathlib.Nat.{not-suc-le-zero, mul-le-mul_left}
 use native.Mathlib.Numerals.{add-one}
 use lib.ListN.{length, take, drop}
 use lib.Seq.{length-take-le}
+use Rattle.std.specs.Prelude.{Option, Some, None}
 use Rattle.network.specs.Mask.{join_below}
 use Rattle.network.specs.Below.{sum_below}
 use Rattle.network.specs.Network.{Network}
@@ -29,10 +30,7 @@ use Rattle.tree.specs.Parts.{node_bytes}
 use Rattle.tree.specs.Trees.{tree_bytes}
 use Rattle.tree.specs.Parts.{move_of}
 use Rattle.tree.proofs.TreeLaws.{tree_length, node_bytes_lem, same_bytes, same_nodes}
-use Rattle.moves.specs.declared.Step.{Step}
-use Rattle.moves.specs.declared.Step.TheVariants as step
 use Rattle.moves.specs.Moves.{FirstOf, Timely}
-use Rattle.turns.specs.declared.Turn.TheVariants as turn
 use Rattle.turns.specs.Turns.{most, most_behind, Leaves, Finds, first_tree_at, AgentFinds, tree_behind, WorldFinds}
 use Rattle.turns.proofs.BufferLaws.{untouched, given_up, front_is, behind_front}
 use Rattle.turns.proofs.FirstTreeLaws.{first_fits, end_bytes, end_nodes, end_won, end_lost, none_wins, wins_won, same_tree}
@@ -62,7 +60,7 @@ module _ (net : Network) (s : State) where
   bytes_length m k = join_lengths k 3 _ _ (λ j lt. tree_length net (tree_behind net s m j))
 
   -- what a turn found fits
-  pub agent_fits : (n : ℕ) (xs ys : List ℕ) → AgentFinds net s (turn.Won n) xs ys → n ≤ most net s
+  pub agent_fits : (n : ℕ) (xs ys : List ℕ) → AgentFinds net s (Some n) xs ys → n ≤ most net s
   unfolding Finds
   agent_fits n xs ys f =
       let e = tree_length net (first_tree_at net s) in
@@ -70,7 +68,7 @@ module _ (net : Network) (s : State) where
       let b = f.2.bounded in
       omega arith
 
-  pub world_fits : (m : Move) (n : ℕ) (xs ys : List ℕ) → WorldFinds net s m (turn.Won n) xs ys → n ≤ most_behind net s m
+  pub world_fits : (m : Move) (n : ℕ) (xs ys : List ℕ) → WorldFinds net s m (Some n) xs ys → n ≤ most_behind net s m
   unfolding Finds
   world_fits m n xs ys f =
       let e = bytes_length m (outcomes net m) in
@@ -81,7 +79,7 @@ module _ (net : Network) (s : State) where
   -- ---- no point is left
 
   pub ends_won :
-      (xs : List ℕ) → 3 * most net s ≤ length xs → over net s ≡ true → kept net s ≡ true → AgentFinds net s (turn.Won 0) xs xs
+      (xs : List ℕ) → 3 * most net s ≤ length xs → over net s ≡ true → kept net s ≡ true → AgentFinds net s (Some 0) xs xs
   unfolding Finds
   ends_won xs fits end k = (
     end_won net s end k,
@@ -90,12 +88,12 @@ module _ (net : Network) (s : State) where
   )
 
   -- lost, and nothing was written
-  pub lost_unwritten : (xs : List ℕ) → 3 * most net s ≤ length xs → ¬ CanBeWon net s → AgentFinds net s turn.Lost xs xs
+  pub lost_unwritten : (xs : List ℕ) → 3 * most net s ≤ length xs → ¬ CanBeWon net s → AgentFinds net s None xs xs
   unfolding Finds
   lost_unwritten xs fits lost = (lost, untouched (most net s) xs fits)
 
   pub ends_lost :
-      (xs : List ℕ) → 3 * most net s ≤ length xs → over net s ≡ true → kept net s ≡ false → AgentFinds net s turn.Lost xs xs
+      (xs : List ℕ) → 3 * most net s ≤ length xs → over net s ≡ true → kept net s ≡ false → AgentFinds net s None xs xs
   ends_lost xs fits end z = lost_unwritten xs fits (end_lost net s end z)
 
   -- ---- the agent tries moves
@@ -105,32 +103,32 @@ module _ (net : Network) (s : State) where
   WinsTimely soonest = (k : Move) → Winning net s k → Timely soonest k
 
   -- no move before the one at hand wins; at the end none does
-  abbrev pub Ahead : List ℕ → Step → Type 0
-  Ahead soonest step.End = (k : Move) → ¬ Winning net s k
-  Ahead soonest (step.Try v) =
+  abbrev pub Ahead : List ℕ → Option Node → Type 0
+  Ahead soonest None = (k : Move) → ¬ Winning net s k
+  Ahead soonest (Some v) =
       Legal net s (move_of v) × Timely soonest (move_of v) × ((k : Move) → Winning net s k → ¬ Before k (move_of v))
 
-  pub record Trying (soonest xs ys : List ℕ) (next : Step) : Type 0 where
+  pub record Trying (soonest xs ys : List ℕ) (next : Option Node) : Type 0 where
     pub left_so_far : Leaves [] (most net s) xs ys
     pub ahead : Ahead soonest next
 
-  first_ahead : (soonest : List ℕ) → WinsTimely soonest → (next : Step) → FirstOf net s (λ k. Timely soonest k) next → Ahead soonest next
+  first_ahead : (soonest : List ℕ) → WinsTimely soonest → (next : Option Node) → FirstOf net s (λ k. Timely soonest k) next → Ahead soonest next
   unfolding FirstOf
-  first_ahead soonest early step.End f = λ k w. f k w.legal (early k w)
-  first_ahead soonest early (step.Try v) f = (f.0, f.1, λ k w. f.2 k w.legal (early k w))
+  first_ahead soonest early None f = λ k w. f k w.legal (early k w)
+  first_ahead soonest early (Some v) f = (f.0, f.1, λ k w. f.2 k w.legal (early k w))
 
   pub trying_start :
-      (soonest : List ℕ) → WinsTimely soonest → (xs : List ℕ) → 3 * most net s ≤ length xs → (next : Step) →
+      (soonest : List ℕ) → WinsTimely soonest → (xs : List ℕ) → 3 * most net s ≤ length xs → (next : Option Node) →
       FirstOf net s (λ k. Timely soonest k) next → Trying soonest xs xs next
   trying_start soonest early xs fits next f =
       record { left_so_far = untouched (most net s) xs fits; ahead = first_ahead soonest early next f }
 
   module _ (soonest xs ys : List ℕ) where
-    pub tried_all : Trying soonest xs ys step.End → over net s ≡ false → AgentFinds net s turn.Lost xs ys
+    pub tried_all : Trying soonest xs ys None → over net s ≡ false → AgentFinds net s None xs ys
     unfolding Finds
     tried_all t on = (none_wins net s on t.ahead, t.left_so_far)
 
-    module _ (wf : IsNetwork net) (v : Node) (t : Trying soonest xs ys (step.Try v)) where
+    module _ (wf : IsNetwork net) (v : Node) (t : Trying soonest xs ys (Some v)) where
       abbrev m : Move
       m = move_of v
 
@@ -147,8 +145,8 @@ module _ (net : Network) (s : State) where
 
       -- the move at hand wins
       pub tried_wins :
-          Inside net s → (n : ℕ) (es : List ℕ) → WorldFinds net s m (turn.Won n) (drop 3 ys) es →
-          AgentFinds net s (turn.Won (n + 1)) xs (node_bytes v ++ es)
+          Inside net s → (n : ℕ) (es : List ℕ) → WorldFinds net s m (Some n) (drop 3 ys) es →
+          AgentFinds net s (Some (n + 1)) xs (node_bytes v ++ es)
       unfolding Finds nodes
       tried_wins in-s n es w =
           let same = same_tree net s in-s m w.0 t.ahead.2 in
@@ -169,14 +167,14 @@ module _ (net : Network) (s : State) where
           (before_cases m k)
 
       next_ahead :
-          WinsTimely soonest → ¬ Winning net s m → (next : Step) → FirstOf net s (λ k. Timely soonest k × Before m k) next →
+          WinsTimely soonest → ¬ Winning net s m → (next : Option Node) → FirstOf net s (λ k. Timely soonest k × Before m k) next →
           Ahead soonest next
       unfolding FirstOf
-      next_ahead early fails step.End f = λ k w. f k w.legal (early k w, behind fails k w)
-      next_ahead early fails (step.Try u) f = (f.0, f.1.0, λ k w. f.2 k w.legal (early k w, behind fails k w))
+      next_ahead early fails None f = λ k w. f k w.legal (early k w, behind fails k w)
+      next_ahead early fails (Some u) f = (f.0, f.1.0, λ k w. f.2 k w.legal (early k w, behind fails k w))
 
       pub tried_next :
-          WinsTimely soonest → 3 ≤ length ys → (es : List ℕ) → WorldFinds net s m turn.Lost (drop 3 ys) es → (next : Step) →
+          WinsTimely soonest → 3 ≤ length ys → (es : List ℕ) → WorldFinds net s m None (drop 3 ys) es → (next : Option Node) →
           FirstOf net s (λ k. Timely soonest k × Before m k) next → Trying soonest xs (take 3 ys ++ es) next
       unfolding Finds
       tried_next early long es w next f =
@@ -199,7 +197,7 @@ module _ (net : Network) (s : State) where
       pub written : Leaves (bytes_of m k) (most_behind net s m) xs ys
 
     -- the move does not win, and nothing was written
-    pub refuted : (xs : List ℕ) → 3 * most_behind net s m ≤ length xs → ¬ Winning net s m → WorldFinds net s m turn.Lost xs xs
+    pub refuted : (xs : List ℕ) → 3 * most_behind net s m ≤ length xs → ¬ Winning net s m → WorldFinds net s m None xs xs
     unfolding Finds
     refuted xs fits fails = (fails, untouched (most_behind net s m) xs fits)
 
@@ -218,7 +216,7 @@ module _ (net : Network) (s : State) where
       written_length = bytes_length m k ∙ ap (λ (n : ℕ). 3 * n) (sym a.counted)
 
       -- every outcome was tried
-      pub answered_all : Legal net s m → ¬ (k < outcomes net m) → WorldFinds net s m (turn.Won count) xs ys
+      pub answered_all : Legal net s m → ¬ (k < outcomes net m) → WorldFinds net s m (Some count) xs ys
       unfolding Finds
       answered_all lg last =
           let few = a.few in
@@ -266,8 +264,8 @@ module _ (net : Network) (s : State) where
             (front_is (bytes_of m k) (most_behind net s m) xs ys a.written (3 * count) written_length)
 
         pub answered_lost :
-            (es : List ℕ) → AgentFinds net (after_outcome k) turn.Lost (drop (3 * count) ys) es →
-            WorldFinds net s m turn.Lost xs (take (3 * count) ys ++ es)
+            (es : List ℕ) → AgentFinds net (after_outcome k) None (drop (3 * count) ys) es →
+            WorldFinds net s m None xs (take (3 * count) ys ++ es)
         unfolding Finds
         answered_lost es f = (
           λ w. f.0 (w.answered (outcome_at net m k) (outcome_at_is net m k)),
@@ -275,7 +273,7 @@ module _ (net : Network) (s : State) where
         )
 
         pub answered_next :
-            (n : ℕ) (es : List ℕ) → AgentFinds net (after_outcome k) (turn.Won n) (drop (3 * count) ys) es →
+            (n : ℕ) (es : List ℕ) → AgentFinds net (after_outcome k) (Some n) (drop (3 * count) ys) es →
             Answering xs (take (3 * count) ys ++ es) (count + n) (k + 1)
         unfolding Finds sum_below join_below
         answered_next n es f =

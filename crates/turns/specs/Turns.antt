@@ -1,6 +1,6 @@
 -- Definitions: what the agent's turn and the world's turn find, and what they leave in the bytes lent to them. Not to be believed: only
 -- theorems and inner contracts use it.
-use Rattle.std.specs.Prelude.{◌≡◌, List, [], ◌++◌, ℕ, ◌+◌, ◌-◌, ◌*◌, length, drop}
+use Rattle.std.specs.Prelude.{◌≡◌, Option, Some, None, List, [], ◌++◌, ℕ, ◌+◌, ◌-◌, ◌*◌, length, drop}
 use Rattle.network.specs.Mask.{join_below}
 use Rattle.network.specs.Below.{sum_below}
 use Rattle.network.specs.Network.{Network}
@@ -10,8 +10,6 @@ use Rattle.network.specs.Sizes.{nodes, points_left, room}
 use Rattle.network.specs.FirstMoves.{CanBeWon, Winning}
 use Rattle.network.specs.Search.{first_tree_from}
 use Rattle.tree.specs.Trees.{tree_bytes}
-use Rattle.turns.specs.declared.Turn.{Turn}
-use Rattle.turns.specs.declared.Turn.TheVariants as turn
 
 -- the most nodes of a tree from a state; of the subtrees behind a move
 abbrev pub most : Network → State → ℕ
@@ -28,22 +26,22 @@ pub record Leaves (tree : List ℕ) (n : ℕ) (xs ys : List ℕ) : Type 0 where
   pub is : ys ≡ tree ++ (scratch ++ drop (3 * n) xs)
 
 -- A turn finds a tree of n nodes with these bytes where W holds, and says lost just where it does not.
-unfoldable pub Finds : Type 0 → ℕ → List ℕ → ℕ → Turn → List ℕ → List ℕ → Type 0
-Finds W n tree limit turn.Lost xs ys = (¬ W) × Leaves [] limit xs ys
-Finds W n tree limit (turn.Won m) xs ys = W × (m ≡ n) × Leaves tree limit xs ys
+unfoldable pub Finds : Type 0 → ℕ → List ℕ → ℕ → Option ℕ → List ℕ → List ℕ → Type 0
+Finds W n tree limit None xs ys = (¬ W) × Leaves [] limit xs ys
+Finds W n tree limit (Some m) xs ys = W × (m ≡ n) × Leaves tree limit xs ys
 
 -- the tree of first moves from a state: each move performs a point, so there are at most as many moves as points left
 abbrev pub first_tree_at : Network → State → Tree
 first_tree_at net s = first_tree_from net (points_left net s) s
 
 -- from a state; behind a move, where the tree of each outcome stands directly behind the one before
-abbrev pub AgentFinds : Network → State → Turn → List ℕ → List ℕ → Type 0
+abbrev pub AgentFinds : Network → State → Option ℕ → List ℕ → List ℕ → Type 0
 AgentFinds net s = Finds (CanBeWon net s) (nodes net (first_tree_at net s)) (tree_bytes net (first_tree_at net s)) (most net s)
 
 abbrev pub tree_behind : Network → State → Move → ℕ → Tree
 tree_behind net s m k = first_tree_at net (after net s m (outcome_at net m k))
 
-abbrev pub WorldFinds : Network → State → Move → Turn → List ℕ → List ℕ → Type 0
+abbrev pub WorldFinds : Network → State → Move → Option ℕ → List ℕ → List ℕ → Type 0
 WorldFinds net s m =
     Finds (Winning net s m) (sum_below (outcomes net m) (λ k. nodes net (tree_behind net s m k)))
     (join_below (outcomes net m) (λ k. tree_bytes net (tree_behind net s m k))) (most_behind net s m)

@@ -11,69 +11,48 @@ ghost use Rattle.game.specs.Position.{state_of, Proper};
 ghost use Rattle.turns.specs.Turns.{most, most_behind, AgentFinds, WorldFinds};
 
 use game::Position;
-use moves::Step;
 use plan::{Plan, letters};
 use tree::Node;
-
-// What a turn finds: the game cannot be won, or a tree of so many nodes, which it wrote.
-#[derive(Clone, Copy)]
-pub enum Turn {
-    Lost,
-    Won(usize),
-}
 
 // The agent's turn: moves are tried in their order, and the first from which the game can be won is written, its subtrees directly behind.
 // Moves that perform a point before its soonest slot do not win, and are left out.
 #[cycle(agent_world)]
-pub fn agent(plan: Plan, at: Position, buf: &mut [u8]) -> Turn
+pub fn agent(plan: Plan, at: Position, buf: &mut [u8]) -> Option<usize>
     requires { WellFormed plan × Proper plan at × (3 * most (network_of plan) (state_of plan at) ≤ length buf.old) }
     ensures { AgentFinds (network_of plan) (state_of plan at) result buf.old buf.new }
 {
     if at.left == 0 {
-        if game::keeps_so_far(plan, at) {
-            return Turn::Won(0);
-        }
-        return Turn::Lost;
+        return game::keeps_so_far(plan, at).then_some(0);
     }
     let soonest = pruning::soonest(plan, at);
     let mut step = moves::first_move(plan, at, soonest);
-    loop {
-        let Step::Try(v) = step else {
-            return Turn::Lost;
-        };
-        let below = world(plan, at, v, &mut buf[3..]);
-        if let Turn::Won(n) = below {
-            let nodes = n + 1;
+    while let Some(v) = step {
+        if let Some(n) = world(plan, at, v, &mut buf[3..]) {
             tree::put_node(buf, 0, v);
-            return Turn::Won(nodes);
+            return Some(n + 1);
         }
         step = moves::next_move(plan, at, soonest, v);
     }
+    None
 }
 
 // The world's turn after a legal move: all outcomes are tested before any subtree is written; then each in turn, its subtree directly behind
 // the one before.
 #[cycle(agent_world)]
-fn world(plan: Plan, at: Position, v: Node, buf: &mut [u8]) -> Turn
+fn world(plan: Plan, at: Position, v: Node, buf: &mut [u8]) -> Option<usize>
     requires { WellFormed plan × Proper plan at × Legal (network_of plan) (state_of plan at) (move_of v)
         × (3 * most_behind (network_of plan) (state_of plan at) (move_of v) ≤ length buf.old) }
     ensures { WorldFinds (network_of plan) (state_of plan at) (move_of v) result buf.old buf.new }
 {
     if pruning::move_lost(plan, at, v) {
-        return Turn::Lost;
+        return None;
     }
     let heard = letters::heard(plan, v.points);
     let outcomes = masks::submasks(heard);
     let mut count: usize = 0;
-    let mut k: u16 = 0;
-    while k < outcomes {
+    for k in 0..outcomes {
         let next = game::after(at, v, masks::numbered(heard, k));
-        let below = agent(plan, next, &mut buf[3 * count..]);
-        let Turn::Won(n) = below else {
-            return Turn::Lost;
-        };
-        count += n;
-        k += 1;
+        count += agent(plan, next, &mut buf[3 * count..])?;
     }
-    Turn::Won(count)
+    Some(count)
 }

@@ -7,8 +7,5 @@ use Rattle.game.proofs.first_points.Goals as goal
 pub returns-then-n-ge8 : goal.returns-then-n-ge8
 returns-then-n-ge8 c = sym (all_points c.args.n (omega arith))
 
-pub overflow_sub-result : goal.overflow_sub-result
-overflow_sub-result c = (first_points c.args.n (omega arith)).some
-
 pub returns : goal.returns
-returns c = (first_points c.args.n (omega arith)).is
+returns c = first_points c.args.n (omega arith)

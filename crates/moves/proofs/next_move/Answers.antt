@@ -1,9 +1,9 @@
 -- `next_move`: by the case that the tests leave. Only the checker need believe this file.
 use mathlib.Core.Path.{◌≡◌, sym, ap, ◌∙◌}
 use Prim.Native.Nat.{ℕ, ◌+◌}
+use Rattle.std.specs.Prelude.{Some}
 use Rattle.masks.specs.Next.{next_inside}
 use Rattle.plan.specs.Settled.{settled_by}
-use Rattle.moves.specs.declared.Step.TheVariants as step
 use Rattle.moves.specs.Moves.{ready_at, from_slot}
 use Rattle.moves.proofs.StepLaws.{choices_behind, points_behind, more_choices, other_points, later_slot}
 use Rattle.moves.proofs.next_move.Goals as goal
@@ -24,7 +24,7 @@ returns-then-choices-ne0 c =
     let a = c.args in
     let choices = choices-are (goal.at.returns-then-choices-ne0 c).After-next_inside-choices in
     let some : ¬ (c.next_inside-choices.result ≡ 0) = c.if-choices-ne0.true in
-    ap (λ (x : ℕ). step.Try (record { slot = a.v.slot; points = a.v.points; choices = x })) choices
+    ap (λ (x : ℕ). Some (record { slot = a.v.slot; points = a.v.points; choices = x })) choices
     ∙ sym (more_choices a.plan a.at a.soonest a.v (λ e. some (choices ∙ e)))
 
 -- no choices are left
@@ -51,7 +51,7 @@ returns-then-points-ne0 c =
     let a = c.args in
     let points = points-are (goal.at.returns-then-points-ne0 c).After-next_inside-points in
     let some : ¬ (c.next_inside-points.result ≡ 0) = c.if-points-ne0.true in
-    ap (λ (x : ℕ). step.Try (record { slot = a.v.slot; points = x; choices = 0 })) points
+    ap (λ (x : ℕ). Some (record { slot = a.v.slot; points = x; choices = 0 })) points
     ∙ sym (other_points a.plan a.at a.soonest a.v (no-choices (goal.at.returns-then-points-ne0 c).Else-choices-ne0 (choices-are (goal.at.returns-then-points-ne0 c).After-next_inside-choices)) (λ e. some (points ∙ e)))
 
 pub returns : goal.returns

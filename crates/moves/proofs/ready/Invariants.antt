@@ -8,6 +8,3 @@ use Rattle.moves.proofs.ready.Given as goal
 
 abbrev pub invariant-loop-x : goal.invariant-loop-x
 invariant-loop-x l = MaskFrom 8 (λ i. bit l.at.left i && leb (slots_in l.soonest i) l.slot) l.x l.m
-
-abbrev pub decreases-loop-x : goal.decreases-loop-x
-decreases-loop-x l = l.x

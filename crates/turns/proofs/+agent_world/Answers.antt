@@ -1,46 +1,44 @@
 -- The proof of `agent` and `world`, which call each other with fewer points left. Only the checker need believe this file.
 use mathlib.Core.Path.{◌≡◌, refl, sym, ◌∙◌, subst}
-use mathlib.Core.Bool.{true, false}
+use mathlib.Core.Bool.{true}
 use Prim.Native.Nat.{ℕ, ◌+◌, ◌-◌, ◌*◌, ◌^◌, ◌≤◌, ◌<◌}
 use native.Mathlib.Omega.{arith}
 use borrow.Author.Rules.{rules}
 use borrow.Rule.Slice.PartMut.{same_len_mid}
 use lib.ListN.{length}
+use Rattle.std.specs.Prelude.{Option, Some, None}
 use Rattle.network.specs.Mask.{bit, count}
 use Rattle.plan.specs.Plan.{network_of}
 use Rattle.plan.specs.Letters.{heard_by}
 use Rattle.plan.proofs.SliceLaws.{rest}
+use Rattle.tree.specs.declared.Node.{Node}
 use Rattle.tree.specs.Parts.{move_of}
-use Rattle.moves.specs.declared.Step.{Step}
-use Rattle.moves.specs.declared.Step.TheVariants as step
 use Rattle.moves.proofs.OrderLaws.{moves_ahead, ahead_falls}
 use Rattle.game.specs.Position.{state_of}
 use Rattle.game.proofs.NextLaws.{next, next_proper, next_fewer}
-use Rattle.turns.specs.declared.Turn.{Turn}
-use Rattle.turns.specs.declared.Turn.TheVariants as turn
 use Rattle.turns.specs.Turns.{most, most_behind}
 use Rattle.turns.proofs.PlaceLaws as at_place
 use Rattle.turns.proofs.PlaceLaws.{AgentAt, WorldAt, Trying}
 use Rattle.turns.proofs.+agent_world.Goals as goal
-use Rattle.turns.proofs.+agent_world.Goals.{agent-In-Try, agent-In-Won, world-After-after-next, world-After-submasks-outcomes, world-In-Won, world-Start}
+use Rattle.turns.proofs.+agent_world.Goals.{agent-In-Some, agent-In-Some-world, world-After-after-next, world-After-submasks-outcomes, world-In_ok-count, world-Start}
 
 -- ---- the agent
 
 -- the move at hand
-agent-tries : (t : ℕ) (c : agent-In-Try t) →
+agent-tries : (t : ℕ) (c : agent-In-Some t) →
     let a = c.args in
     let soon = c.soonest-soonest in
-    Trying a.plan a.at soon.result a.buf.now c.loop-step.buf (step.Try c.in-Try.v)
+    Trying a.plan a.at soon.result a.buf.now c.loop-step.buf (Some c.in-Some.v)
 agent-tries t c =
     let a = c.args in
     let l = c.loop-step in
     let soon = c.soonest-soonest in
-    subst (Trying a.plan a.at soon.result a.buf.now l.buf) c.in-Try.is l.invariant.1
+    subst (Trying a.plan a.at soon.result a.buf.now l.buf) c.in-Some.is l.invariant.1
 
 -- it has room, and so has what comes behind it
-agent-room : (t : ℕ) (c : agent-In-Try t) →
+agent-room : (t : ℕ) (c : agent-In-Some t) →
     let a = c.args in
-    3 + 3 * most_behind (network_of a.plan) (state_of a.plan a.at) (move_of c.in-Try.v) ≤ length c.loop-step.buf
+    3 + 3 * most_behind (network_of a.plan) (state_of a.plan a.at) (move_of c.in-Some.v) ≤ length c.loop-step.buf
 agent-room t c =
     let a = c.args in
     let l = c.loop-step in
@@ -48,31 +46,23 @@ agent-room t c =
     _ l.buf l.invariant.0 _ (agent-tries t c)
 
 -- what the world found behind it, where it is a tree
-agent-won : (t : ℕ) (c : agent-In-Won t) →
+agent-won : (t : ℕ) (c : agent-In-Some-world t) →
     let a = c.args in
     let l = c.loop-step in
-    let w = c.world-below in
-    WorldAt a.plan a.at c.in-Try.v (turn.Won c.in-Won.n) (rest 3 l.buf) w.new.buf
+    let w = c.world in
+    WorldAt a.plan a.at c.in-Some.v (Some c.in-Some-world.n) (rest 3 l.buf) w.new.buf
 agent-won t c =
     let a = c.args in
     let l = c.loop-step in
-    let w = c.world-below in
-    let said : WorldAt a.plan a.at c.in-Try.v w.result (rest 3 l.buf) w.new.buf = w.ensures in
-    subst (λ (r : Turn). WorldAt a.plan a.at c.in-Try.v r (rest 3 l.buf) w.new.buf) c.in-Won.is said
-
-pub agent-returns-then-keeps_so_far : goal.agent-returns-then-keeps_so_far
-agent-returns-then-keeps_so_far t c =
-    let a = c.args in
-    let said : c.keeps_so_far.result ≡ true = c.if-keeps_so_far.true in
-    at_place.ends_won a.plan c.requires.0 a.at c.requires.1 a.buf.now c.requires.2
-    c.if-at-eq0.true _ c.keeps_so_far.ensures said
+    let w = c.world in
+    let said : WorldAt a.plan a.at c.in-Some.v w.result (rest 3 l.buf) w.new.buf = w.ensures in
+    subst (λ (r : Option ℕ). WorldAt a.plan a.at c.in-Some.v r (rest 3 l.buf) w.new.buf) c.in-Some-world.is said
 
 pub agent-returns-then-at-eq0 : goal.agent-returns-then-at-eq0
 agent-returns-then-at-eq0 t c =
     let a = c.args in
-    let said : c.keeps_so_far.result ≡ false = c.if-keeps_so_far.false in
-    at_place.ends_lost a.plan c.requires.0 a.at c.requires.1 a.buf.now c.requires.2
-    c.if-at-eq0.true _ c.keeps_so_far.ensures said
+    at_place.ends_found a.plan c.requires.0 a.at c.requires.1 a.buf.now c.requires.2
+    c.if-at-eq0.true _ c.keeps_so_far.ensures _ c.then_some.ensures
 
 pub agent-loop-step-init : goal.agent-loop-step-init
 agent-loop-step-init t c =
@@ -82,11 +72,8 @@ agent-loop-step-init t c =
           _ (c.soonest-soonest.ensures c.requires.0 c.requires.1) _ c.first_move-step.ensures,
     )
 
-pub agent-shape_of-buf-in_default : goal.agent-shape_of-buf-in_default
-agent-shape_of-buf-in_default t c = c.loop-step.invariant.0
-
-pub agent-returns-in_default : goal.agent-returns-in_default
-agent-returns-in_default t c =
+pub agent-returns : goal.agent-returns
+agent-returns t c =
     let a = c.args in
     let l = c.loop-step in
     let soon = c.soonest-soonest in
@@ -100,11 +87,11 @@ agent-slice_bounds-world-count t c = let r = agent-room t c in omega arith
 pub agent-slice_bounds-world-start : goal.agent-slice_bounds-world-start
 agent-slice_bounds-world-start t c = let r = agent-room t c in omega arith
 
-pub agent-world-below-requires : goal.agent-world-below-requires
-agent-world-below-requires t c =
+pub agent-world-requires : goal.agent-world-requires
+agent-world-requires t c =
     let a = c.args in
     let l = c.loop-step in
-    let tries = agent-tries t (goal.at.agent-world-below-requires t c).In-Try in (
+    let tries = agent-tries t (goal.at.agent-world-requires t c).In-Some in (
       rw (← c.decreases) (omega arith),
       (
         c.requires.0,
@@ -114,45 +101,45 @@ agent-world-below-requires t c =
       ),
     )
 
-pub agent-overflow_add-nodes : goal.agent-overflow_add-nodes
-agent-overflow_add-nodes t c =
+pub agent-overflow_add-result : goal.agent-overflow_add-result
+agent-overflow_add-result t c =
     let a = c.args in
     let l = c.loop-step in
-    let tries = agent-tries t (goal.at.agent-overflow_add-nodes t c).In-Try in
-    let won = agent-won t (c) in
+    let tries = agent-tries t (goal.at.agent-overflow_add-result t c).In-Some in
+    let won = agent-won t (goal.at.agent-overflow_add-result t c).In-Some-world in
     let f = at_place.count_fits a.plan c.requires.0 a.at c.requires.1 a.buf.now c.requires.2
     _ l.buf l.invariant.0 _ tries _ _ won in
     let e = l.invariant.0 in
     let g = c.well_formed in
     omega arith
 
-pub agent-returns-in-Won : goal.agent-returns-in-Won
-agent-returns-in-Won t c =
+pub agent-returns-in-Some-world : goal.agent-returns-in-Some-world
+agent-returns-in-Some-world t c =
     let a = c.args in
     let l = c.loop-step in
-    let tries = agent-tries t (goal.at.agent-returns-in-Won t c).In-Try in
-    let won = agent-won t (goal.at.agent-returns-in-Won t c).In-Won in
+    let tries = agent-tries t (goal.at.agent-returns-in-Some-world t c).In-Some in
+    let won = agent-won t (goal.at.agent-returns-in-Some-world t c).In-Some-world in
     at_place.tried_wins a.plan c.requires.0 a.at c.requires.1 a.buf.now c.requires.2
     _ l.buf l.invariant.0 _ tries _ _ _ won c.put_node.ensures
 
 pub agent-loop-step-smaller : goal.agent-loop-step-smaller
 agent-loop-step-smaller t c =
     let a = c.args in
-    let tries = agent-tries t (goal.at.agent-loop-step-smaller t c).In-Try in
+    let tries = agent-tries t (goal.at.agent-loop-step-smaller t c).In-Some in
     let falls = ahead_falls a.plan c.requires.0 a.at c.requires.1 _ _ tries.ahead.0 tries.ahead.1 in
-    subst (λ (x : Step). moves_ahead c.next_move-step.result < moves_ahead x) (sym c.in-Try.is) (rw c.next_move-step.ensures falls)
+    subst (λ (x : Option Node). moves_ahead c.next_move-step.result < moves_ahead x) (sym c.in-Some.is) (rw c.next_move-step.ensures falls)
 
 pub agent-loop-step-preserved : goal.agent-loop-step-preserved
 agent-loop-step-preserved t c =
     let a = c.args in
     let l = c.loop-step in
-    let w = c.world-below in
+    let w = c.world in
     let es = w.new.buf in
     let soon = c.soonest-soonest in
-    let lost = subst (λ (r : Turn). WorldAt a.plan a.at c.in-Try.v r (rest 3 l.buf) es) c.in_default-below.is w.ensures in (
+    let lost = subst (λ (r : Option ℕ). WorldAt a.plan a.at c.in-Some.v r (rest 3 l.buf) es) c.in_default-world.is w.ensures in (
       same_len_mid 3 (length l.buf - 3) l.buf es w.auto.buf ∙ l.invariant.0,
       at_place.tried_next a.plan c.requires.0 a.at c.requires.1 a.buf.now c.requires.2
-          _ l.buf l.invariant.0 c.in-Try.v (agent-tries t (goal.at.agent-loop-step-preserved t c).In-Try) es
+          _ l.buf l.invariant.0 c.in-Some.v (agent-tries t (goal.at.agent-loop-step-preserved t c).In-Some) es
           (soon.ensures c.requires.0 c.requires.1) lost _ c.next_move-step.ensures,
     )
 
@@ -187,20 +174,20 @@ world-room t c world-long_here world-counts_here =
     l.buf l.invariant.0 l.count l.k l.invariant.1 (omega arith) (world-long_here) _ (world-next t c)
 
 -- what the agent found there, where it is a tree
-world-won : (t : ℕ) (c : world-In-Won t) →
+world-won : (t : ℕ) (c : world-In_ok-count t) →
     let a = c.args in
     let l = c.loop-k in
-    let r = c.agent-below in
+    let r = c.agent in
     let u = c.after-next.result in
-    AgentAt a.plan u (turn.Won c.in-Won.n) (rest (3 * l.count) l.buf) r.new.buf
+    AgentAt a.plan u (Some c.in_ok-count.field-0) (rest (3 * l.count) l.buf) r.new.buf
 world-won t c =
     let a = c.args in
     let l = c.loop-k in
-    let r = c.agent-below in
+    let r = c.agent in
     let u = c.after-next.result in
-    let is-won = c.in-Won.is in
+    let is-won : r.result ≡ Some c.in_ok-count.field-0 = c.in_ok-count.was in
     let said : AgentAt a.plan u r.result (rest (3 * l.count) l.buf) r.new.buf = r.ensures in
-    subst (λ (x : Turn). AgentAt a.plan u x (rest (3 * l.count) l.buf) r.new.buf) is-won said
+    subst (λ (x : Option ℕ). AgentAt a.plan u x (rest (3 * l.count) l.buf) r.new.buf) is-won said
 
 pub world-returns-then-move_lost : goal.world-returns-then-move_lost
 world-returns-then-move_lost t c =
@@ -227,12 +214,12 @@ world-slice_bounds-agent-count t c = let r = world-room t c (world-long t (goal.
 pub world-slice_bounds-agent-start : goal.world-slice_bounds-agent-start
 world-slice_bounds-agent-start t c = let r = world-room t c (world-long t (goal.at.world-slice_bounds-agent-start t c).Start) (world-counts t (goal.at.world-slice_bounds-agent-start t c).After-submasks-outcomes) in omega arith
 
-pub world-agent-below-requires : goal.world-agent-below-requires
-world-agent-below-requires t c =
+pub world-agent-requires : goal.world-agent-requires
+world-agent-requires t c =
     let a = c.args in
     let l = c.loop-k in
-    let all = world-counts t (goal.at.world-agent-below-requires t c).After-submasks-outcomes in
-    let e = world-next t (goal.at.world-agent-below-requires t c).After-after-next in
+    let all = world-counts t (goal.at.world-agent-requires t c).After-submasks-outcomes in
+    let e = world-next t (goal.at.world-agent-requires t c).After-after-next in
     let f = next_fewer a.plan c.requires.0 a.at c.requires.1 a.v c.requires.2 l.k in
     let proper = next_proper a.plan c.requires.0 a.at c.requires.1 a.v c.requires.2 l.k in (
       rw (e, ← c.decreases) (omega arith),
@@ -240,28 +227,23 @@ world-agent-below-requires t c =
         c.requires.0,
         rw e proper,
         at_place.rest_fits a.plan c.requires.0 a.at c.requires.1 a.v c.requires.2 a.buf.now c.requires.3 _ all
-            l.buf l.invariant.0 l.count l.k l.invariant.1 (omega arith) (world-long t (goal.at.world-agent-below-requires t c).Start) _ e,
+            l.buf l.invariant.0 l.count l.k l.invariant.1 (omega arith) (world-long t (goal.at.world-agent-requires t c).Start) _ e,
       ),
     )
 
-pub world-shape_of-buf-in_default : goal.world-shape_of-buf-in_default
-world-shape_of-buf-in_default t c =
-    let l = c.loop-k in
-    let r = c.agent-below in
-    same_len_mid (3 * l.count) (length l.buf - 3 * l.count) l.buf r.new.buf r.auto.buf ∙ l.invariant.0
-
-pub world-returns-in_default : goal.world-returns-in_default
-world-returns-in_default t c =
+pub world-returns-in_err-count : goal.world-returns-in_err-count
+world-returns-in_err-count t c =
     let a = c.args in
     let l = c.loop-k in
-    let all = world-counts t (goal.at.world-returns-in_default t c).After-submasks-outcomes in
-    let r = c.agent-below in
+    let all = world-counts t (goal.at.world-returns-in_err-count t c).After-submasks-outcomes in
+    let r = c.agent in
     let u = c.after-next.result in
-    let lost = subst (λ (x : Turn). AgentAt a.plan u x (rest (3 * l.count) l.buf) r.new.buf)
-    c.in_default.is r.ensures in
-    at_place.answered_lost a.plan c.requires.0 a.at c.requires.1 a.v c.requires.2 a.buf.now c.requires.3 _ all
+    let is-lost : r.result ≡ None = search rules in
+    let lost = subst (λ (x : Option ℕ). AgentAt a.plan u x (rest (3 * l.count) l.buf) r.new.buf) is-lost r.ensures in
+    let none : c.from_residual.result ≡ None = search rules in
+    rw none (at_place.answered_lost a.plan c.requires.0 a.at c.requires.1 a.v c.requires.2 a.buf.now c.requires.3 _ all
     l.buf l.invariant.0 l.count l.k l.invariant.1
-    (omega arith) (world-long t (goal.at.world-returns-in_default t c).Start) u (world-next t (goal.at.world-returns-in_default t c).After-after-next) _ lost
+    (omega arith) (world-long t (goal.at.world-returns-in_err-count t c).Start) u (world-next t (goal.at.world-returns-in_err-count t c).After-after-next) _ lost)
 
 pub world-overflow_add-count : goal.world-overflow_add-count
 world-overflow_add-count t c =
@@ -280,15 +262,12 @@ world-loop-k-preserved t c =
     let a = c.args in
     let l = c.loop-k in
     let all = world-counts t (goal.at.world-loop-k-preserved t c).After-submasks-outcomes in
-    let r = c.agent-below in (
+    let r = c.agent in (
       same_len_mid (3 * l.count) (length l.buf - 3 * l.count) l.buf r.new.buf r.auto.buf ∙ l.invariant.0,
       at_place.answered_next a.plan c.requires.0 a.at c.requires.1 a.v c.requires.2 a.buf.now c.requires.3 _ all
           l.buf l.invariant.0 l.count l.k l.invariant.1
           (omega (arith, c.loop-k-test.true)) (world-long t (goal.at.world-loop-k-preserved t c).Start) _ (world-next t (goal.at.world-loop-k-preserved t c).After-after-next) _ _ (world-won t c),
     )
-
-pub world-shape_of-buf : goal.world-shape_of-buf
-world-shape_of-buf t c = c.loop-k.invariant.0
 
 pub world-returns : goal.world-returns
 world-returns t c =

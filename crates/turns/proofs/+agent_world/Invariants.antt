@@ -1,6 +1,6 @@
 -- The proof of `agent` and `world`, which call each other with fewer points left. Only the checker need believe this file.
 use mathlib.Core.Path.{◌≡◌}
-use Prim.Native.Nat.{◌+◌, ◌-◌, ◌*◌}
+use Prim.Native.Nat.{◌+◌, ◌*◌}
 use lib.ListN.{length}
 use Rattle.network.specs.Mask.{bit, count}
 use Rattle.moves.proofs.OrderLaws.{moves_ahead}
@@ -17,9 +17,6 @@ decreases-agent-loop-step l = moves_ahead l.step
 abbrev pub invariant-world-loop-k : goal.invariant-world-loop-k
 invariant-world-loop-k l =
     (length l.buf ≡ length l.initial.buf) × Answering l.plan l.at l.v l.initial.buf l.buf l.count l.k
-
-abbrev pub decreases-world-loop-k : goal.decreases-world-loop-k
-decreases-world-loop-k l = l.outcomes - l.k
 
 -- twice the points left, and one more where the agent moves
 abbrev pub decreases-agent : goal.decreases-agent
