@@ -25,13 +25,15 @@ use Rattle.network.proofs.NetworkLaws.{condition_lt, decision_lt, one_kind}
 use Rattle.network.proofs.GameLaws.{after_inside}
 use Rattle.network.proofs.PathLaws.{SameAt, slot_first}
 use Rattle.network.proofs.FirstLaws.{found→sound, winnable_exactly}
+use Rattle.std.specs.Borrow.{Bor}
+use Rattle.plan.specs.declared.Constraint.{Constraint}
 use Rattle.plan.specs.declared.Plan.{Plan}
 use Rattle.plan.specs.Plan.{letter_at, network_of}
 use Rattle.plan.specs.Settled.{settled_by}
 use Rattle.plan.specs.WellFormed.{WellFormed}
 use Rattle.plan.proofs.PlanLaws.{network_of_well_formed}
 use Rattle.plan.proofs.SliceLaws.{get_listed}
-use Rattle.constraints.specs.Rows.{rows_say}
+use Rattle.constraints.specs.Used.{constraints_of}
 use Rattle.table.specs.declared.View.{View}
 use Rattle.table.specs.Table.{Within, set_to, unknown, free, flipped, Win, Below}
 use Rattle.table.proofs.TableLaws.{free_byte}
@@ -66,7 +68,7 @@ winning_sound net st m w = (
       found→sound net n next ((winnable_exactly net n next (after_inside net st m o) (count_le n (bit next.left))).1 (w.answered o k)),
 )
 
-module _ (p : Plan) (wf : WellFormed p) (at : Position) where
+module _ (p : Plan) (wf : WellFormed p) (at : Position) (constraints : Bor (List Constraint)) where
   abbrev net : Network
   net = network_of p
 
@@ -74,7 +76,7 @@ module _ (p : Plan) (wf : WellFormed p) (at : Position) where
   st = state_of p at
 
   abbrev v : View
-  v = view_of p at
+  v = view_of p at constraints
 
   -- ---- the view
 
@@ -235,9 +237,8 @@ module _ (p : Plan) (wf : WellFormed p) (at : Position) where
 
     -- `small`: no slot of a point performed is 255, which stands for no slot in a table
     abbrev win_of :
-        ((x : ℕ) → x < 8 → get_or v.cap x 0 < 255) → (rows : List ℕ) → rows_say p.constraints rows ≡ net.constraints →
-        Win v rows
-    win_of small rows say =
+        ((x : ℕ) → x < 8 → get_or v.cap x 0 < 255) → constraints_of constraints.now ≡ net.constraints → Win v
+    win_of small say =
         record {
           net = net;
           is_network = network_of_well_formed p wf;
@@ -264,15 +265,15 @@ module _ (p : Plan) (wf : WellFormed p) (at : Position) where
   -- ---- what follows of the game
 
   module _
-      (ok : Proper p at) (small : (x : ℕ) → x < 8 → get_or v.cap x 0 < 255) (rows : List ℕ)
-      (say : rows_say p.constraints rows ≡ net.constraints) where
+      (ok : Proper p at) (small : (x : ℕ) → x < 8 → get_or v.cap x 0 < 255)
+      (say : constraints_of constraints.now ≡ net.constraints) where
     -- no win, so no tree that wins
-    pub table_lost : ¬ Win v rows → ¬ CanBeWon net st
-    table_lost none c = none (win_of ok c.tree c.sound small rows say)
+    pub table_lost : ¬ Win v → ¬ CanBeWon net st
+    table_lost none c = none (win_of ok c.tree c.sound small say)
 
     -- a winning move does not perform a point before the slots that every win keeps to
     pub table_timely :
-        (slots : List ℕ) → ((w : Win v rows) (s : ℕ) → w.settled s ≡ s → Below w s slots) → (m : Move) → Winning net st m →
+        (slots : List ℕ) → ((w : Win v) (s : ℕ) → w.settled s ≡ s → Below w s slots) → (m : Move) → Winning net st m →
         (x : ℕ) → bit m.points x ≡ true → slots_in slots x ≤ m.slot
     table_timely slots below m w x y =
         let next : ℕ → Tree = λ o. first_tree_from net p.points (after net st m o) in
@@ -280,6 +281,6 @@ module _ (p : Plan) (wf : WellFormed p) (at : Position) where
         let lt = ok.points_left_lem x (w.legal.not_yet x y) in
         let t = node m next in
         let s = settle (g ok t sd) 0 in
-        let b = below (win_of ok t sd small rows say) s (settled_on (g ok t sd) 0) x lt in
+        let b = below (win_of ok t sd small say) s (settled_on (g ok t sd) 0) x lt in
         let e = slot_first net (network_of_well_formed p wf) (Kept net) m next st s x sd lt y in
         omega arith

@@ -1,7 +1,9 @@
 -- Definitions: what the table of least slots needs to know of a position. The contracts of `lost`, `move_lost` and `soonest` speak of the
 -- game alone. Not to be believed: only theorems and inner contracts use it.
 use Rattle.std.specs.Prelude.{◌&&◌, List, ℕ, ◌%◌, ltb, eqb, get_or}
+use Rattle.std.specs.Borrow.{Bor}
 use Rattle.network.specs.Mask.{mask}
+use Rattle.plan.specs.declared.Constraint.{Constraint}
 use Rattle.plan.specs.declared.Letter.{Letter}
 use Rattle.plan.specs.declared.Plan.{Plan}
 use Rattle.plan.specs.Plan.{zero_letter, letter_at, listed}
@@ -10,21 +12,17 @@ use Rattle.plan.specs.Settled.{settled_by}
 use Rattle.table.specs.declared.View.{View}
 use Rattle.game.specs.declared.Position.{Position}
 use Rattle.game.specs.Carried.{slots_after}
-use Rattle.pruning.specs.declared.Outline.{Outline}
-
--- a plan but for its constraints
-abbrev pub outline_of : Plan → Outline
-outline_of p = record { horizon = p.horizon; points = p.points; letters = p.letters; constraints = p.constraints; letter = p.letter }
 
 -- the letters that a point discloses, of the first so many
 abbrev pub letters_at : List Letter → ℕ → ℕ → ℕ
 letters_at entries count x = mask 6 (λ l. ltb l count && eqb (get_or entries l zero_letter).point x)
 
--- The view of a position. (The remainder makes the first open slot a byte: it is no later than that slot.)
-abbrev pub view_of : Plan → Position → View
-view_of p at =
+-- The view of a position, to which these constraints are lent. (The remainder makes the first open slot a byte: it is no later than that
+-- slot.)
+abbrev pub view_of : Plan → Position → Bor (List Constraint) → View
+view_of p at constraints =
     record {
-      constraints = p.constraints;
+      constraints = constraints;
       points = p.points;
       left = at.left;
       values = at.values;

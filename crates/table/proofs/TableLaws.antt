@@ -1,5 +1,5 @@
 -- Laws of the table of least slots: what each rule does to it keeps every win that fits. Only the checker need believe this file.
-use mathlib.Core.Path.{◌≡◌, refl, sym, ap, ◌∙◌, subst}
+use mathlib.Core.Path.{◌≡◌, refl, sym, ◌∙◌, subst}
 use mathlib.Core.Logic.{by_cases, ◌⊎◌, inl, inr, ⊎_elim, ◌≢◌}
 use mathlib.Core.Bool.{true}
 use mathlib.Core.List.{List, [], ◌∷◌}
@@ -8,8 +8,8 @@ use native.Mathlib.Omega.{arith}
 use native.Mathlib.Nat.{le_refl, le_trans, lt_of_le_of_lt}
 use native.Mathlib.Decide.{dec_lt, ℕ_discrete}
 use lib.Bits.{and_le_l}
-use lib.ListN.{length, get_or, set, replicate}
-use lib.Seq.{get_or-set_same, get_or-set_other}
+use lib.ListN.{get_or, set, replicate}
+use lib.Seq.{get_or-set_other}
 use Rattle.network.specs.Mask.{bit}
 use Rattle.network.specs.Network.{slots_in}
 use Rattle.network.specs.Network as net
@@ -19,7 +19,7 @@ use Rattle.network.proofs.MaskLaws.{bit_zero, bit_above}
 use Rattle.network.proofs.RaiseLaws.{raised_below}
 use Rattle.masks.specs.Next.{next_inside}
 use Rattle.masks.proofs.NextLaws.{Last, Next, next_inside_cases}
-use Rattle.constraints.specs.Rows.{rows_say}
+use Rattle.constraints.specs.Used.{constraints_of}
 use Rattle.table.specs.declared.View.{View}
 use Rattle.table.specs.Table.{Within, set_to, unknown, free, flipped, Win, entry, Below, Fits, Tighter, Lost, Assuming, Moves, Follows, Past, Flipped, Put, AllStruck, Soonest}
 
@@ -71,61 +71,13 @@ getD_set_le [] i a = zero-le
 getD_set_le (x ∷ xs) zero a = le_refl a
 getD_set_le (x ∷ xs) (suc i) a = getD_set_le xs i a
 
-pub put_start : (table : List ℕ) (s : ℕ) (slots : List ℕ) → Put table table s slots
-put_start table s slots = record { each = λ r x lt. inl (le_refl (entry table r x)) }
-
-pub put_more :
-    (table after : List ℕ) (s : ℕ) (slots : List ℕ) (x k : ℕ) → Put table after s slots → x < 8 → k ≡ s * 8 + x →
-    Put table (set after k (get_or slots x 0)) s slots
-put_more table after s slots x k p h e =
-    record {
-      each = λ r y lt. by_cases (ℕ_discrete (r * 8 + y) k)
-          (λ q. let same : r ≡ s = omega arith in
-          let point : y ≡ x = omega arith in
-          inr (
-            same,
-            subst (λ (n : ℕ). get_or (set after k (get_or slots x 0)) n 0 ≤ get_or slots y 0) (sym q)
-                (subst (λ (z : ℕ). get_or (set after k (get_or slots x 0)) k 0 ≤ get_or slots z 0) (sym point)
-                (getD_set_le after k (get_or slots x 0))),
-          ))
-          (λ n. rw (get_or-set_other after k (r * 8 + y) (get_or slots x 0) 0 n) (p.each r y lt));
-    }
-
 -- ---- rows
-
--- eight entries in a row, k the place of the first
-pub row_read :
-    (t : List ℕ) (k s : ℕ) → k ≡ s * 8 + 0 → (x : ℕ) → x < 8 →
-    get_or
-    (get_or t k 0
-    ∷ (get_or t (k + 1) 0
-    ∷ (get_or t (k + 2) 0
-    ∷ (get_or t (k + 3) 0 ∷ (get_or t (k + 4) 0 ∷ (get_or t (k + 5) 0 ∷ (get_or t (k + 6) 0 ∷ (get_or t (k + 7) 0 ∷ []))))))))
-    x 0
-    ≡ entry t s x
-row_read t k s e zero h = ap (λ (n : ℕ). get_or t n 0) e
-row_read t k s e (suc zero) h = ap (λ (n : ℕ). get_or t n 0) (omega arith)
-row_read t k s e (suc (suc zero)) h = ap (λ (n : ℕ). get_or t n 0) (omega arith)
-row_read t k s e (suc (suc (suc zero))) h = ap (λ (n : ℕ). get_or t n 0) (omega arith)
-row_read t k s e (suc (suc (suc (suc zero)))) h = ap (λ (n : ℕ). get_or t n 0) (omega arith)
-row_read t k s e (suc (suc (suc (suc (suc zero))))) h = ap (λ (n : ℕ). get_or t n 0) (omega arith)
-row_read t k s e (suc (suc (suc (suc (suc (suc zero)))))) h = ap (λ (n : ℕ). get_or t n 0) (omega arith)
-row_read t k s e (suc (suc (suc (suc (suc (suc (suc zero))))))) h = ap (λ (n : ℕ). get_or t n 0) (omega arith)
-row_read t k s e (suc (suc (suc (suc (suc (suc (suc (suc x)))))))) h = absurd (omega arith)
 
 -- the first x of the slots are the lesser of two
 abbrev pub Lesser : List ℕ → List ℕ → List ℕ → ℕ → Type 0
 Lesser a b out x = (i : ℕ) → i < x → get_or out i 0 ≡ min (get_or a i 0) (get_or b i 0)
 
-pub lesser_next :
-    (a b out : List ℕ) (x m : ℕ) → Lesser a b out x → x < length out → m ≡ min (get_or a x 0) (get_or b x 0) →
-    Lesser a b (set out x m) (x + 1)
-lesser_next a b out x m h inside e i lt =
-    by_cases (ℕ_discrete i x)
-    (λ q. rw (q, get_or-set_same out x m 0 inside) e)
-    (λ n. rw (get_or-set_other out x i m 0 n) (h i (omega arith)))
-
-module _ {v : View} {rows : List ℕ} (w : Win v rows) where
+module _ {v : View} (w : Win v) where
   -- a row put keeps the fit where its slots are no later than the win's
   pub put_fits :
       {table after : List ℕ} {s : ℕ} {slots : List ℕ} → Put table after s slots → (w.settled s ≡ s → Below w s slots) → Fits w table →
@@ -162,11 +114,11 @@ module _ {v : View} {rows : List ℕ} (w : Win v rows) where
 
 -- ---- partners of the flip rule
 
-module _ (v : View) (rows : List ℕ) where
+module _ (v : View) where
   -- While partners are looked for, d at hand: the least slot found so far is no later than x, or x is as in a partner not yet passed.
   pub record Seeking (table : List ℕ) (s q x least d : ℕ) : Type 0 where
     pub each :
-        (w : Win v rows) → Fits w table → w.settled s ≡ s → bit v.unheard q ≡ true → bit v.left x ≡ true →
+        (w : Win v) → Fits w table → w.settled s ≡ s → bit v.unheard q ≡ true → bit v.left x ≡ true →
         (least ≤ w.time s x)
         ⊎ ((e : ℕ) × (d ≤ e) × Within (free v x) e × (w.settled (flipped v s q x e) ≡ flipped v s q x e)
         × (w.time (flipped v s q x e) x ≡ w.time s x))
@@ -186,7 +138,7 @@ module _ (v : View) (rows : List ℕ) where
       (table : List ℕ) (s q x least d less : ℕ) (seeking : Seeking table s q x least d) (inside : Within (free v x) d)
       (byte : free v x < 256) (le : less ≤ least) (entered : less ≤ entry table (flipped v s q x d) x) where
     passed :
-        (w : Win v rows) → Fits w table → w.settled s ≡ s → bit v.unheard q ≡ true → bit v.left x ≡ true →
+        (w : Win v) → Fits w table → w.settled s ≡ s → bit v.unheard q ≡ true → bit v.left x ≡ true →
         (less ≤ w.time s x)
         ⊎ ((e : ℕ) × (d < e) × Within (free v x) e × (w.settled (flipped v s q x e) ≡ flipped v s q x e)
         × (w.time (flipped v s q x e) x ≡ w.time s x))
@@ -210,7 +162,7 @@ module _ (v : View) (rows : List ℕ) where
               (passed w f on u l);
         }
 
-    pub seek_done : next_inside (free v x) d ≡ 0 → Flipped v rows table s q x less
+    pub seek_done : next_inside (free v x) d ≡ 0 → Flipped v table s q x less
     seek_done z =
         record {
           below = λ w f on u l. ⊎_elim (λ t. t)
@@ -223,28 +175,28 @@ zeros zero i = refl
 zeros (suc n) zero = refl
 zeros (suc n) (suc i) = zeros n i
 
-module _ {v : View} {rows : List ℕ} where
+module _ {v : View} where
   -- ---- tables one after the other
 
-  pub same_table : {table : List ℕ} → Tighter v rows table table
+  pub same_table : {table : List ℕ} → Tighter v table table
   same_table = record { fits = λ w f. f }
 
-  pub join : {table after last : List ℕ} → Tighter v rows table after → Tighter v rows after last → Tighter v rows table last
+  pub join : {table after last : List ℕ} → Tighter v table after → Tighter v after last → Tighter v table last
   join a b = record { fits = λ w f. b.fits w (a.fits w f) }
 
-  pub lost_before : {table after : List ℕ} → Tighter v rows table after → Lost v rows after → Lost v rows table
+  pub lost_before : {table after : List ℕ} → Tighter v table after → Lost v after → Lost v table
   lost_before a l = record { none = λ w f. l.none w (a.fits w f) }
 
   -- ---- the constraint rule
 
-  pub stay : {s : ℕ} {slots : List ℕ} → Moves v rows s slots slots
+  pub stay : {s : ℕ} {slots : List ℕ} → Moves v s slots slots
   stay = record { below = λ w on b. b }
 
-  pub move_on : {s : ℕ} {slots next last : List ℕ} → Moves v rows s slots next → Moves v rows s next last → Moves v rows s slots last
+  pub move_on : {s : ℕ} {slots next last : List ℕ} → Moves v s slots next → Moves v s next last → Moves v s slots last
   move_on a b = record { below = λ w on f. b.below w on (a.below w on f) }
 
   -- a round of the raise moves no point past a schedule that keeps
-  pub raise_moves : (cap s : ℕ) (slots : List ℕ) → Moves v rows s slots (turns cap (bit s) slots (rows_say v.constraints rows))
+  pub raise_moves : (cap s : ℕ) (slots : List ℕ) → Moves v s slots (turns cap (bit s) slots (constraints_of v.constraints.now))
   raise_moves cap s slots =
       record {
         below = λ w on b x lt.
@@ -253,47 +205,27 @@ module _ {v : View} {rows : List ℕ} where
             (raised_below cap w.net (bit s) slots w.is_network (w.time s) (w.kept s on) (λ y l. b y (omega arith)) x (omega arith));
       }
 
-  pub late_past : {s : ℕ} {slots : List ℕ} (x : ℕ) → x < v.points → get_or v.cap x 0 < get_or slots x 0 → Past v rows s slots
-  late_past x lt late =
-      record { none = λ w on b. let u = w.upto _ x on lt in let k = b x lt in omega arith }
-
   pub follows_strike :
-      {s : ℕ} {slots moved table after : List ℕ} → Moves v rows s slots moved → Past v rows s moved → Put table after s (replicate 8 255) →
-      Follows v rows s slots table after
+      {s : ℕ} {slots moved table after : List ℕ} → Moves v s slots moved → Past v s moved → Put table after s (replicate 8 255) →
+      Follows v s slots table after
   follows_strike m p put =
       record { fits = λ w g f. put_fits w put (λ on. absurd (p.none w on (m.below w on (g on)))) f }
 
   pub follows_put :
-      {s : ℕ} {slots moved table after : List ℕ} → Moves v rows s slots moved → Put table after s moved → Follows v rows s slots table after
+      {s : ℕ} {slots moved table after : List ℕ} → Moves v s slots moved → Put table after s moved → Follows v s slots table after
   follows_put m put = record { fits = λ w g f. put_fits w put (λ on. m.below w on (g on)) f }
-
-  -- from the row itself, and from the earliest slots
-  pub from_row :
-      {s : ℕ} {slots table after : List ℕ} → ((x : ℕ) → x < 8 → get_or slots x 0 ≡ entry table s x) → Follows v rows s slots table after →
-      Tighter v rows table after
-  from_row e follows =
-      record {
-        fits = λ w f. follows.fits w
-            (λ on x lt. let few = w.few_points in rw (e x (omega arith)) (f _ x on lt)) f;
-      }
-
-  pub from_low : {s : ℕ} {table after : List ℕ} → Follows v rows s v.low table after → Tighter v rows table after
-  from_low follows = record { fits = λ w f. follows.fits w (λ on x lt. w.from _ x on lt) f }
 
   -- ---- the flip rule
 
-  pub flip_nothing : {table : List ℕ} {s q x : ℕ} → Flipped v rows table s q x 0
-  flip_nothing = record { below = λ w f on u l. zero-le }
-
   pub flip_store :
-      {table : List ℕ} {s q x slot k : ℕ} → Flipped v rows table s q x slot → bit v.unheard q ≡ true → bit v.left x ≡ true → x < 8 →
-      k ≡ s * 8 + x → Tighter v rows table (set table k slot)
+      {table : List ℕ} {s q x slot k : ℕ} → Flipped v table s q x slot → bit v.unheard q ≡ true → bit v.left x ≡ true → x < 8 →
+      k ≡ s * 8 + x → Tighter v table (set table k slot)
   flip_store {table} {s} {q} {x} {slot} {k} r u l h e =
       record { fits = λ w f. store_fits w table s x k slot e h f (λ on. r.below w f on u l) }
 
   pub flip_strike :
-      {table after : List ℕ} {s q x slot : ℕ} → Flipped v rows table s q x slot → bit v.unheard q ≡ true → bit v.left x ≡ true →
-      get_or v.cap x 0 < slot → Put table after s (replicate 8 255) → Tighter v rows table after
+      {table after : List ℕ} {s q x slot : ℕ} → Flipped v table s q x slot → bit v.unheard q ≡ true → bit v.left x ≡ true →
+      get_or v.cap x 0 < slot → Put table after s (replicate 8 255) → Tighter v table after
   flip_strike {x = x} r u l late put =
       record {
         fits = λ w f. put_fits w put
@@ -303,45 +235,35 @@ module _ {v : View} {rows : List ℕ} where
   -- ---- scenarios without a setting
 
   pub none_left :
-      (table : List ℕ) (u : ℕ) → Within v.unheard u → AllStruck v table (set_to v.values v.unheard u) → Lost v rows table
+      (table : List ℕ) (u : ℕ) → Within v.unheard u → AllStruck v table (set_to v.values v.unheard u) → Lost v table
   none_left table u h all =
       record { none = λ w f. let p = w.some u h in not_struck w table _ f p.2 (all.each p.0 p.1) }
 
   -- ---- probing
 
-  pub assume_nothing : {s : ℕ} {table : List ℕ} → Assuming v rows s table table
+  pub assume_nothing : {s : ℕ} {table : List ℕ} → Assuming v s table table
   assume_nothing = record { fits = λ w on f. f }
 
-  pub assume_strike :
-      {s o : ℕ} (d : ℕ) {table after last : List ℕ} → Assuming v rows s table after → Within v.undecided d → o ≡ set_to s
-      v.undecided d →
-      o ≢ s → Put after last o (replicate 8 255) → Assuming v rows s table last
-  assume_strike {s} d a h e n put =
-      record {
-        fits = λ w on f. put_fits w put
-            (λ there. absurd (n (e ∙ w.only s d on h (subst (λ (o : ℕ). w.settled o ≡ o) e there)))) (a.fits w on f);
-      }
-
   pub probe_strike :
-      {s : ℕ} {table alone after : List ℕ} → Assuming v rows s table alone → Lost v rows alone → Put table after s (replicate 8 255) →
-      Tighter v rows table after
+      {s : ℕ} {table alone after : List ℕ} → Assuming v s table alone → Lost v alone → Put table after s (replicate 8 255) →
+      Tighter v table after
   probe_strike a l put = record { fits = λ w f. put_fits w put (λ on. absurd (l.none w (a.fits w on f))) f }
 
   -- ---- the first table, and the end
 
-  pub zeros_fit : (w : Win v rows) → Fits w (replicate 512 0)
+  pub zeros_fit : (w : Win v) → Fits w (replicate 512 0)
   zeros_fit w s x on lt = rw (zeros 512 (s * 8 + x)) zero-le
 
-  pub no_win : Lost v rows (replicate 512 0) → ¬ Win v rows
+  pub no_win : Lost v (replicate 512 0) → ¬ Win v
   no_win l w = l.none w (zeros_fit w)
 
-module _ (v : View) (rows : List ℕ) where
+module _ (v : View) where
   -- ---- the least slots in any setting
 
   -- in the setting of d
   abbrev pub BelowAt : List ℕ → List ℕ → ℕ → Type 0
   BelowAt table least d =
-      (w : Win v rows) → Fits w table → w.settled (set_to v.values (unknown v) d) ≡ set_to v.values (unknown v) d →
+      (w : Win v) → Fits w table → w.settled (set_to v.values (unknown v) d) ≡ set_to v.values (unknown v) d →
       Below w (set_to v.values (unknown v) d) least
 
   -- lesser slots, no later than the row of d either
@@ -356,7 +278,7 @@ module _ (v : View) (rows : List ℕ) where
   below_row table next d le w f on x lt = let few = w.few_points in le_trans (le x (omega arith)) (f _ x on lt)
 
   pub soonest_all :
-      (table least : List ℕ) → ((d : ℕ) → Within (unknown v) d → BelowAt table least d) → Soonest v rows table least
+      (table least : List ℕ) → ((d : ℕ) → Within (unknown v) d → BelowAt table least d) → Soonest v table least
   soonest_all table least all =
       record {
         below = λ w f s on. let k = w.known s on in

@@ -6,7 +6,7 @@ use Rattle.network.specs.Mask.{bit}
 use Rattle.network.specs.Below.{any_below}
 use Rattle.network.specs.Network.{Network, Schedule, keeps}
 use Rattle.network.specs.IsNetwork.{IsNetwork}
-use Rattle.constraints.specs.Rows.{rows_say}
+use Rattle.constraints.specs.Used.{constraints_of}
 use Rattle.table.specs.declared.View.{View}
 
 -- ---- settings of the letters
@@ -39,10 +39,10 @@ nearby v set c = any_below 6 (λ q. bit v.unheard q && bit set (bit_xor c (2 ^ q
 
 -- For each outcome of the unheard conditions a win ends in exactly one setting. `settled` maps any setting to that one; s is reached where
 -- `settled s ≡ s`.
-pub record Win (v : View) (rows : List ℕ) : Type 0 where
+pub record Win (v : View) : Type 0 where
   pub net : Network
   pub is_network : IsNetwork net
-  pub constraints : net.constraints ≡ rows_say v.constraints rows
+  pub constraints : net.constraints ≡ constraints_of v.constraints.now
   pub points : net.points ≡ v.points
   pub few_points : v.points ≤ 8
   pub some_point : 0 < v.points
@@ -77,7 +77,7 @@ pub record Win (v : View) (rows : List ℕ) : Type 0 where
 abbrev pub entry : List ℕ → ℕ → ℕ → ℕ
 entry table s x = get_or table (s * 8 + x) 0
 
-module _ {v : View} {rows : List ℕ} (w : Win v rows) where
+module _ {v : View} (w : Win v) where
   -- slots that are no later than those of the win in the setting s
   abbrev pub Below : ℕ → List ℕ → Type 0
   Below s slots = (x : ℕ) → x < v.points → get_or slots x 0 ≤ w.time s x
@@ -87,33 +87,33 @@ module _ {v : View} {rows : List ℕ} (w : Win v rows) where
   Fits table = (s x : ℕ) → w.settled s ≡ s → x < v.points → entry table s x ≤ w.time s x
 
 -- every win that fits the one table fits the other
-pub record Tighter (v : View) (rows table after : List ℕ) : Type 0 where
-  pub fits : (w : Win v rows) → Fits w table → Fits w after
+pub record Tighter (v : View) (table after : List ℕ) : Type 0 where
+  pub fits : (w : Win v) → Fits w table → Fits w after
 
 -- no win fits
-pub record Lost (v : View) (rows table : List ℕ) : Type 0 where
-  pub none : (w : Win v rows) → ¬ Fits w table
+pub record Lost (v : View) (table : List ℕ) : Type 0 where
+  pub none : (w : Win v) → ¬ Fits w table
 
 -- every win that fits the one table and reaches s fits the other
-pub record Assuming (v : View) (rows : List ℕ) (s : ℕ) (table after : List ℕ) : Type 0 where
-  pub fits : (w : Win v rows) → w.settled s ≡ s → Fits w table → Fits w after
+pub record Assuming (v : View) (s : ℕ) (table after : List ℕ) : Type 0 where
+  pub fits : (w : Win v) → w.settled s ≡ s → Fits w table → Fits w after
 
 -- slots no later than a win's are followed by such slots
-pub record Moves (v : View) (rows : List ℕ) (s : ℕ) (slots after : List ℕ) : Type 0 where
-  pub below : (w : Win v rows) → w.settled s ≡ s → Below w s slots → Below w s after
+pub record Moves (v : View) (s : ℕ) (slots after : List ℕ) : Type 0 where
+  pub below : (w : Win v) → w.settled s ≡ s → Below w s slots → Below w s after
 
 -- where these slots are no later than the win's in setting s, if it reaches s, a win that fits the one table fits the other
-pub record Follows (v : View) (rows : List ℕ) (s : ℕ) (slots table after : List ℕ) : Type 0 where
-  pub fits : (w : Win v rows) → (w.settled s ≡ s → Below w s slots) → Fits w table → Fits w after
+pub record Follows (v : View) (s : ℕ) (slots table after : List ℕ) : Type 0 where
+  pub fits : (w : Win v) → (w.settled s ≡ s → Below w s slots) → Fits w table → Fits w after
 
 -- no win that reaches s has every point in these slots or later ones
-pub record Past (v : View) (rows : List ℕ) (s : ℕ) (slots : List ℕ) : Type 0 where
-  pub none : (w : Win v rows) → w.settled s ≡ s → ¬ Below w s slots
+pub record Past (v : View) (s : ℕ) (slots : List ℕ) : Type 0 where
+  pub none : (w : Win v) → w.settled s ≡ s → ¬ Below w s slots
 
 -- r is no later than point x in setting s, by the rule for condition q
-pub record Flipped (v : View) (rows table : List ℕ) (s q x r : ℕ) : Type 0 where
+pub record Flipped (v : View) (table : List ℕ) (s q x r : ℕ) : Type 0 where
   pub below :
-      (w : Win v rows) → Fits w table → w.settled s ≡ s → bit v.unheard q ≡ true → bit v.left x ≡ true → r ≤ w.time s x
+      (w : Win v) → Fits w table → w.settled s ≡ s → bit v.unheard q ≡ true → bit v.left x ≡ true → r ≤ w.time s x
 
 -- An entry of row s grew to these slots at most; no other entry grew. (Entries that are too small cost time, never correctness.)
 pub record Put (table after : List ℕ) (s : ℕ) (slots : List ℕ) : Type 0 where
@@ -125,5 +125,5 @@ pub record AllStruck (v : View) (table : List ℕ) (c : ℕ) : Type 0 where
   pub each : (d : ℕ) → Within v.undecided d → entry table (set_to c v.undecided d) 0 ≡ 255
 
 -- slots that are no later than those of any win that fits, in any setting that it reaches
-pub record Soonest (v : View) (rows table slots : List ℕ) : Type 0 where
-  pub below : (w : Win v rows) → Fits w table → (s : ℕ) → w.settled s ≡ s → Below w s slots
+pub record Soonest (v : View) (table slots : List ℕ) : Type 0 where
+  pub below : (w : Win v) → Fits w table → (s : ℕ) → w.settled s ≡ s → Below w s slots

@@ -10,14 +10,17 @@ mod rules;
 ghost use Rattle.std.specs.Prelude.{◌≡◌, true, List, ℕ, min, ◌<◌, get_or};
 ghost use Rattle.table.specs.Table.{Win, Below, Tighter, Lost, Soonest};
 
+use plan::Constraint;
+
 // Every scenario: they are numbered below 64.
 const ALL_SCENARIOS: u64 = 18446744073709551615;
 
-// What the table needs to know of a state.
+// What the table needs to know of a state. It is lent beside the table: a struct of both would be made anew for each probe, which works on a
+// table of its own, and taken apart in each function, since some change the table and some only read it.
 #[derive(Clone, Copy)]
-pub struct View {
-    // how many constraints and points there are
-    pub constraints: u8,
+pub struct View<'a> {
+    // the constraints, and how many points there are
+    pub constraints: &'a [Constraint],
     pub points: u8,
     // the points not yet performed
     pub left: u8,
@@ -34,14 +37,14 @@ pub struct View {
 }
 
 // The first table: in each setting the earliest slots, moved to where the constraints ask.
-fn first_rows(v: View, rows: &[u16; 320], table: &mut [u8; 512])
-    ensures { Tighter v rows.now table.old table.new }
+fn first_rows(v: &View, table: &mut [u8; 512])
+    ensures { Tighter v.now table.old table.new }
 {
     let unknown = v.unheard | v.undecided;
     let low = v.low;
     let mut u: u8 = 0;
     loop {
-        rules::keep_constraints(v, rows, table, cells::set_to(v.values, unknown, u), low);
+        rules::keep_constraints(v, table, cells::set_to(v.values, unknown, u), low);
         u = masks::next_inside(unknown, u);
         if u == 0 {
             return;
@@ -50,32 +53,29 @@ fn first_rows(v: View, rows: &[u16; 320], table: &mut [u8; 512])
 }
 
 // Both rules and probing, as far as they go. True only where no win is left.
-fn settle(v: View, rows: &[u16; 320], table: &mut [u8; 512]) -> bool
-    ensures { Tighter v rows.now table.old table.new
-        × (result ≡ true → Lost v rows.now table.old) }
+fn settle(v: &View, table: &mut [u8; 512]) -> bool
+    ensures { Tighter v.now table.old table.new
+        × (result ≡ true → Lost v.now table.old) }
 {
-    first_rows(v, rows, table);
+    first_rows(v, table);
     if !rounds::all_remain(v, table, ALL_SCENARIOS) {
         return true;
     }
-    if !rounds::tighten(v, rows, table, ALL_SCENARIOS) {
+    if !rounds::tighten(v, table, ALL_SCENARIOS) {
         return true;
     }
-    if v.unheard == 0 {
+    if v.unheard == 0 || v.undecided == 0 {
         return false;
     }
-    if v.undecided == 0 {
-        return false;
-    }
-    probing::refutes(v, rows, table)
+    probing::refutes(v, table)
 }
 
 // The whole test: true only where there is no win.
-pub fn hopeless(v: View, rows: &[u16; 320]) -> bool
-    ensures { result ≡ true → ¬ Win v rows.now }
+pub fn hopeless(v: &View) -> bool
+    ensures { result ≡ true → ¬ Win v.now }
 {
     let mut table = [0u8; 512];
-    settle(v, rows, &mut table)
+    settle(v, &mut table)
 }
 
 // The lesser of each two slots.
@@ -83,22 +83,21 @@ fn lesser_slots(a: [u8; 8], b: [u8; 8]) -> [u8; 8]
     ensures { (x : ℕ) → x < 8 → get_or result x 0 ≡ min (get_or a x 0) (get_or b x 0) }
 {
     let mut out = a;
-    let mut x: u8 = 0;
-    while x < 8 {
-        out[x as usize] = cells::lesser(a[x as usize], b[x as usize]);
-        x += 1;
+    for x in 0..8 {
+        out[x] = a[x].min(b[x]);
     }
     out
 }
 
 // The least slot of each point in any setting.
-fn least_slots(v: View, table: &[u8; 512]) -> [u8; 8]
-    ensures { (rows : List ℕ) → Soonest v rows table.now result }
+fn least_slots(v: &View, table: &[u8; 512]) -> [u8; 8]
+    ensures { Soonest v.now table.now result }
 {
     let unknown = v.unheard | v.undecided;
     let mut least = [255u8; 8];
     let mut u: u8 = 0;
     loop {
+        // bound first: an array that a call hands back, assigned at once, is not covered by the proof
         let next = lesser_slots(
             least,
             cells::row_of(table, cells::set_to(v.values, unknown, u)),
@@ -112,10 +111,10 @@ fn least_slots(v: View, table: &[u8; 512]) -> [u8; 8]
 }
 
 // For each point a slot before which no win performs it.
-pub fn soonest(v: View, rows: &[u16; 320]) -> [u8; 8]
-    ensures { (w : Win v rows.now) (s : ℕ) → w.settled s ≡ s → Below w s result }
+pub fn soonest(v: &View) -> [u8; 8]
+    ensures { (w : Win v.now) (s : ℕ) → w.settled s ≡ s → Below w s result }
 {
     let mut least = [0u8; 512];
-    settle(v, rows, &mut least);
+    settle(v, &mut least);
     least_slots(v, &least)
 }

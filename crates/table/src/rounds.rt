@@ -4,13 +4,13 @@ ghost use Rattle.std.specs.Prelude.{◌≡◌, false, List, ℕ, ◌<◌};
 ghost use Rattle.network.specs.Mask.{bit};
 ghost use Rattle.table.specs.Table.{nearby, Tighter, Lost, AllStruck};
 
+use crate::cells::Setting;
 use crate::{View, cells, rules};
 
 // Both rules for setting s. Says whether the table changes. Before the call the row rests under the constraint rule, so where the flip rule
 // moves nothing there is nothing to do.
-fn tighten_setting(v: View, rows: &[u16; 320], table: &mut [u8; 512], s: u8) -> bool
-    requires { s < 64 }
-    ensures { Tighter v rows.now table.old table.new }
+fn tighten_setting(v: &View, table: &mut [u8; 512], s: Setting) -> bool
+    ensures { Tighter v.now table.old table.new }
 {
     if cells::struck(table, s) {
         return false;
@@ -22,19 +22,18 @@ fn tighten_setting(v: View, rows: &[u16; 320], table: &mut [u8; 512], s: u8) -> 
         return true;
     }
     let slots = cells::row_of(table, s);
-    rules::keep_constraints(v, rows, table, s, slots);
+    rules::keep_constraints(v, table, s, slots);
     true
 }
 
 // .. for each setting of scenario c.
-fn tighten_scenario(v: View, rows: &[u16; 320], table: &mut [u8; 512], c: u8) -> bool
-    ensures { Tighter v rows.now table.old table.new }
+fn tighten_scenario(v: &View, table: &mut [u8; 512], c: Setting) -> bool
+    ensures { Tighter v.now table.old table.new }
 {
     let mut any = false;
     let mut d: u8 = 0;
     loop {
-        let moved = tighten_setting(v, rows, table, cells::set_to(c, v.undecided, d));
-        any = any | moved;
+        any |= tighten_setting(v, table, cells::set_to(c.letters, v.undecided, d));
         d = masks::next_inside(v.undecided, d);
         if d == 0 {
             return any;
@@ -43,54 +42,51 @@ fn tighten_scenario(v: View, rows: &[u16; 320], table: &mut [u8; 512], c: u8) ->
 }
 
 // Whether scenario c is in the set.
-fn among(set: u64, c: u8) -> bool
-    requires { c < 64 }
-    ensures { result ≡ bit set c }
+fn among(set: u64, c: Setting) -> bool
+    ensures { result ≡ bit set c.letters }
 {
-    (set >> c) % 2 == 1
+    (set >> c.letters) % 2 == 1
 }
 
 // Whether scenario c, or one that differs from it in one unheard condition, is among those that moved.
-fn near(v: View, moved: u64, c: u8) -> bool
-    requires { c < 64 }
-    ensures { result ≡ nearby v moved c }
+fn near(v: &View, moved: u64, c: Setting) -> bool
+    ensures { result ≡ nearby v.now moved c.letters }
 {
-    let mut q: u8 = 0;
-    while q < 6 {
+    for q in 0..6 {
         if masks::has(v.unheard, q) {
-            if among(moved, (c ^ rules::letter_mask(q)) % 64) {
+            let other = Setting {
+                letters: (c.letters ^ rules::letter_mask(q)) % 64,
+            };
+            if among(moved, other) {
                 return true;
             }
         }
-        q += 1;
     }
     among(moved, c)
 }
 
 // Scenario c, if it moved or one near it did: its bit where the table changes, else 0.
-fn visit(v: View, rows: &[u16; 320], table: &mut [u8; 512], moved: u64, c: u8) -> u64
-    requires { c < 64 }
-    ensures { Tighter v rows.now table.old table.new }
+fn visit(v: &View, table: &mut [u8; 512], moved: u64, c: Setting) -> u64
+    ensures { Tighter v.now table.old table.new }
 {
     if !near(v, moved, c) {
         return 0;
     }
-    if !tighten_scenario(v, rows, table, c) {
+    if !tighten_scenario(v, table, c) {
         return 0;
     }
-    1u64 << c
+    c.scenario()
 }
 
 // One round over the scenarios. Says which changed.
-fn round(v: View, rows: &[u16; 320], table: &mut [u8; 512], moved: u64) -> u64
-    ensures { Tighter v rows.now table.old table.new }
+fn round(v: &View, table: &mut [u8; 512], moved: u64) -> u64
+    ensures { Tighter v.now table.old table.new }
 {
     let mut now: u64 = 0;
     let mut u: u8 = 0;
     loop {
         let c = cells::set_to(v.values, v.unheard, u);
-        let changed = visit(v, rows, table, moved | now, c);
-        now = now | changed;
+        now |= visit(v, table, moved | now, c);
         u = masks::next_inside(v.unheard, u);
         if u == 0 {
             return now;
@@ -99,13 +95,13 @@ fn round(v: View, rows: &[u16; 320], table: &mut [u8; 512], moved: u64) -> u64
 }
 
 // How many settings are left to scenario c, counted up to two.
-pub fn remain(v: View, table: &[u8; 512], c: u8) -> u8
-    ensures { result ≡ 0 → AllStruck v table.now c }
+pub fn remain(v: &View, table: &[u8; 512], c: Setting) -> u8
+    ensures { result ≡ 0 → AllStruck v.now table.now c.letters }
 {
     let mut count: u8 = 0;
     let mut d: u8 = 0;
     loop {
-        if !cells::struck(table, cells::set_to(c, v.undecided, d)) {
+        if !cells::struck(table, cells::set_to(c.letters, v.undecided, d)) {
             if count == 1 {
                 return 2;
             }
@@ -119,8 +115,8 @@ pub fn remain(v: View, table: &[u8; 512], c: u8) -> u8
 }
 
 // Whether each of the scenarios that moved has a setting left.
-pub fn all_remain(v: View, table: &[u8; 512], moved: u64) -> bool
-    ensures { result ≡ false → (rows : List ℕ) → Lost v rows table.now }
+pub fn all_remain(v: &View, table: &[u8; 512], moved: u64) -> bool
+    ensures { result ≡ false → Lost v.now table.now }
 {
     let mut u: u8 = 0;
     loop {
@@ -139,14 +135,13 @@ pub fn all_remain(v: View, table: &[u8; 512], moved: u64) -> bool
 
 // Rounds until nothing changes. Says false only where no win is left. (The bound is there so that the loop provably ends. Stopping early is
 // sound: the table only proves less.)
-pub fn tighten(v: View, rows: &[u16; 320], table: &mut [u8; 512], moved: u64) -> bool
-    ensures { Tighter v rows.now table.old table.new
-        × (result ≡ false → Lost v rows.now table.old) }
+pub fn tighten(v: &View, table: &mut [u8; 512], moved: u64) -> bool
+    ensures { Tighter v.now table.old table.new
+        × (result ≡ false → Lost v.now table.old) }
 {
     let mut last = moved;
-    let mut n: u32 = 0;
-    while n < 4000 {
-        let now = round(v, rows, table, last);
+    for _ in 0..4000 {
+        let now = round(v, table, last);
         if now == 0 {
             return true;
         }
@@ -154,7 +149,6 @@ pub fn tighten(v: View, rows: &[u16; 320], table: &mut [u8; 512], moved: u64) ->
             return false;
         }
         last = now;
-        n += 1;
     }
     true
 }

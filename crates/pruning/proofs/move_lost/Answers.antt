@@ -1,12 +1,11 @@
 -- `move_lost`: an outcome after which the state is lost decides. Only the checker need believe this file.
-use mathlib.Core.Path.{◌≡◌, refl, sym, ap, ◌∙◌}
+use mathlib.Core.Path.{◌≡◌, ap, ◌∙◌}
 use mathlib.Core.Bool.{true}
 use Prim.Native.Nat.{ℕ}
 use borrow.Author.Rules.{rules}
 use lib.ListN.{length}
 use Rattle.network.specs.Mask.{bit, submask}
 use Rattle.network.specs.FirstMoves.{CanBeWon}
-use Rattle.network.proofs.Booleans.{clash}
 use Rattle.plan.specs.Plan.{network_of}
 use Rattle.plan.specs.Letters.{heard_by}
 use Rattle.game.specs.Carried.{position_after}
@@ -32,26 +31,15 @@ is-next c =
     let told : outcome.result ≡ submask 8 (bit letters.result) k = outcome.ensures in
     c.after-next.ensures ∙ ap (position_after a.at a.v) (told ∙ ap (λ (m : ℕ). submask 8 (bit m) k) heard)
 
-pub loop-k-init : goal.loop-k-init
-loop-k-init c = tt
-
 pub returns-then-lost_at : goal.returns-then-lost_at
 returns-then-lost_at c =
     let a = c.args in
     let k = c.loop-k.k in
     let test = c.lost_at in
-    let said = c.rows_of-rows.ensures in
-    let outline = c.outline_of-o.ensures in
     let yes : test.result ≡ true = c.if-lost_at.true in
     λ wf ok lg e.
     let proper : Proper a.plan c.after-next.result
     = rw (is-next (goal.at.returns-then-lost_at c).After-after-next) (next_proper a.plan wf a.at ok a.v lg k) in
     let gone : ¬ CanBeWon (network_of a.plan) (state_of a.plan c.after-next.result)
-    = (test.ensures a.plan (sym outline) (said wf.head.constraints)).1 wf proper yes in
+    = test.ensures.lost wf proper yes in
     move_wins_nothing a.plan wf a.at ok (long (goal.at.returns-then-lost_at c).Start) a.v lg k (rw (is-next (goal.at.returns-then-lost_at c).After-after-next) at gone)
-
-pub loop-k-preserved : goal.loop-k-preserved
-loop-k-preserved c = tt
-
-pub returns : goal.returns
-returns c wf ok lg e = clash e refl

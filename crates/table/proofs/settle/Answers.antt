@@ -1,7 +1,7 @@
 -- `settle`: the table tightens at each step, and the first step that says lost decides. Only the checker need believe this file.
-use mathlib.Core.Path.{ap, refl}
+use mathlib.Core.Path.{ap}
 use mathlib.Core.Bool.{not}
-use Rattle.network.proofs.Booleans.{clash, not_true}
+use Rattle.network.proofs.Booleans.{not_true}
 use Rattle.table.proofs.TableLaws.{join, lost_before}
 use Rattle.table.proofs.settle.Goals as goal
 
@@ -9,27 +9,7 @@ pub returns-then-not-all_remain : goal.returns-then-not-all_remain
 returns-then-not-all_remain c =
     let filled = c.first_rows.ensures in
     let said = c.all_remain in
-    (filled, λ e. lost_before filled (said.ensures (not_true said.result (ap not c.if-not-all_remain.true)) _))
-
-pub returns-then-not-tighten : goal.returns-then-not-tighten
-returns-then-not-tighten c =
-    let filled = c.first_rows.ensures in
-    let said = c.tighten in
-    (join filled said.ensures.0, λ e. lost_before filled (said.ensures.1 (not_true said.result (ap not c.if-not-tighten.true))))
-
-pub returns-then-v-eq0 : goal.returns-then-v-eq0
-returns-then-v-eq0 c = (
-  join c.first_rows.ensures
-      c.tighten.ensures.0,
-  λ e. clash e refl,
-)
-
-pub returns-then-v-eq0-2 : goal.returns-then-v-eq0-2
-returns-then-v-eq0-2 c = (
-  join c.first_rows.ensures
-      c.tighten.ensures.0,
-  λ e. clash e refl,
-)
+    (filled, λ e. lost_before filled (said.ensures (not_true said.result (ap not c.if-not-all_remain.true))))
 
 pub returns : goal.returns
 returns c =

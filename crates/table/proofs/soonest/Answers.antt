@@ -3,4 +3,4 @@ use Rattle.table.proofs.TableLaws.{zeros_fit}
 use Rattle.table.proofs.soonest.Goals as goal
 
 pub returns : goal.returns
-returns c = λ w. (c.least_slots.ensures _).below w (c.settle.ensures.0.fits w (zeros_fit w))
+returns c = λ w. c.least_slots.ensures.below w (c.settle.ensures.0.fits w (zeros_fit w))

@@ -1,15 +1,8 @@
 -- `disclosing`: the entries passed are the letters' points. Only the checker need believe this file.
-use mathlib.Core.Path.{◌≡◌, refl}
+use mathlib.Core.Path.{◌≡◌}
 use native.Mathlib.Omega.{arith}
-use Rattle.game.proofs.CodeLaws.{fill_start, fill_put, fill_end}
-use borrow.Author.Rules.{rules}
+use Rattle.game.proofs.CodeLaws.{fill_end}
 use Rattle.pruning.proofs.view.disclosing.Goals as goal
-
-pub loop-l-init : goal.loop-l-init
-loop-l-init c = fill_start (search rules)
-
-pub loop-l-preserved : goal.loop-l-preserved
-loop-l-preserved c = fill_put _ c.loop-l.invariant (omega arith) refl
 
 pub returns : goal.returns
 returns c =

@@ -9,26 +9,16 @@ use borrow.Author.Rules.{rules}
 use Rattle.pruning.proofs.view.own.Goals as goal
 
 pub loop-l-init : goal.loop-l-init
-loop-l-init c = (omega arith, gathered_start _ _ (search rules) (all_same {E = ℕ} 8 0))
-
-pub returns-then-l-ge6 : goal.returns-then-l-ge6
-returns-then-l-ge6 c =
-    let l = c.loop-l in
-    let few = l.invariant.1.few in
-    gathered_all c.args.entries l.out l.l c.args.count l.invariant.1 l.invariant.0
-    (λ lt. omega arith)
+loop-l-init c = gathered_start _ _ (search rules) (all_same {E = ℕ} 8 0)
 
 pub loop-l-preserved : goal.loop-l-preserved
 loop-l-preserved c =
     let entries = c.args.entries in
-    let l = c.loop-l in (
-      omega arith,
-      subst (λ (s : List ℕ). Gathered entries s (l.l + 1)) (sym c.add_letter.ensures)
-          (gathered_next entries l.out l.l _ refl l.invariant.1 (omega arith)),
-    )
+    let l = c.loop-l in
+    subst (λ (s : List ℕ). Gathered entries s (l.l + 1)) (sym c.add_letter.ensures)
+    (gathered_next entries l.out l.l _ refl l.invariant (omega arith))
 
 pub returns : goal.returns
 returns c =
     let l = c.loop-l in
-    gathered_all c.args.entries l.out l.l c.args.count l.invariant.1 l.invariant.0
-    (λ lt. omega arith)
+    gathered_all c.args.entries l.out l.l c.args.count l.invariant (omega arith) (λ lt. omega arith)

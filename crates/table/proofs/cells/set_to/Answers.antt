@@ -1,9 +1,8 @@
 -- `set_to`: the definition, computed. Only the checker need believe this file.
 use mathlib.Core.Path.{refl}
-use native.Mathlib.Omega.{arith}
 use Rattle.table.specs.Table.{set_to}
 use Rattle.table.proofs.cells.set_to.Goals as goal
 
 pub returns : goal.returns
 unfolding set_to
-returns c = (refl, omega arith)
+returns c = refl

@@ -1,11 +1,10 @@
 -- `assume`: one setting after the other. Only the checker need believe this file.
-use mathlib.Core.List.{List}
-use Prim.Native.Nat.{ℕ, ◌-◌}
+use Prim.Native.Nat.{◌-◌}
 use Rattle.table.specs.Table.{Within, Assuming}
 use Rattle.table.proofs.probing.assume.Given as goal
 
 abbrev pub invariant-loop-table : goal.invariant-loop-table
-invariant-loop-table l = Within l.v.undecided l.d × ((rows : List ℕ) → Assuming l.v rows l.s l.initial.table l.table)
+invariant-loop-table l = Within l.v.undecided l.d × (Assuming l.v l.s.letters l.initial.table l.table)
 
 abbrev pub decreases-loop-table : goal.decreases-loop-table
 decreases-loop-table l = 256 - l.d

@@ -6,23 +6,17 @@ use Rattle.table.specs.Table.{Within, unknown}
 use Rattle.table.proofs.TableLaws.{within_none, go_on, same_table, join}
 use borrow.Author.Rules.{rules}
 use Rattle.table.proofs.probing.probe_each.Goals as goal
-use Rattle.table.proofs.probing.probe_each.Goals.{Else-u-eq0, Start}
+use Rattle.table.proofs.probing.probe_each.Goals.{Else-u-eq0}
 
-byte : (c : Start) → (c.args.v.unheard < 256) × (c.args.v.undecided < 256)
-byte c = (search rules, search rules)
-
-further : (c : Else-u-eq0) → Within (unknown c.args.v)
+further : (c : Else-u-eq0) → Within (unknown c.args.v.now)
     c.next_inside-u.result × (c.loop-u.u < c.next_inside-u.result)
 further c =
-    go_on (unknown c.args.v)
+    go_on (unknown c.args.v.now)
     c.loop-u.invariant.0 c.loop-u.u
     c.loop-u.invariant.1 _ c.next_inside-u.ensures c.if-u-eq0.false
 
 pub loop-u-init : goal.loop-u-init
-loop-u-init c = (or_lt 8 _ _ (byte (goal.at.loop-u-init c).Start).0 (byte (goal.at.loop-u-init c).Start).1, within_none _, same_table)
-
-pub returns-then-u-eq0 : goal.returns-then-u-eq0
-returns-then-u-eq0 c = join c.loop-u.invariant.2 c.probe_open-found.ensures
+loop-u-init c = (or_lt 8 c.args.v.now.unheard c.args.v.now.undecided (search rules) (search rules), within_none _, same_table)
 
 pub loop-u-smaller : goal.loop-u-smaller
 loop-u-smaller c = let r = further c in let lt = r.1 in omega arith
@@ -32,5 +26,5 @@ loop-u-preserved c = (
   c.loop-u.invariant.0,
   (further c).0,
   join
-      c.loop-u.invariant.2 c.probe_open-found.ensures,
+      c.loop-u.invariant.2 c.probe_open-any.ensures,
 )

@@ -4,4 +4,4 @@ use Rattle.network.proofs.MachineLaws.{bit_shift}
 use Rattle.table.proofs.rounds.among.Goals as goal
 
 pub returns : goal.returns
-returns c = sym (bit_shift c.args.c c.args.set)
+returns c = sym (bit_shift c.args.c.letters c.args.set)

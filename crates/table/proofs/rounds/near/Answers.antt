@@ -13,18 +13,18 @@ use Rattle.table.proofs.rounds.near.Invariants.{leads}
 use Rattle.table.proofs.rounds.near.Goals as goal
 use Rattle.table.proofs.rounds.near.Goals.{Joined-has, then-has+else-among, else-has}
 
-passed : (c : Joined-has) → leads c.args.v
-    c.args.moved c.args.c
+passed : (c : Joined-has) → leads c.args.v.now
+    c.args.moved c.args.c.letters
     c.loop-q.q ≡ false
 passed c =
     let a = c.args in
     let q = c.loop-q.q in
     elim c.if-has.branch [
       | then-has+else-among w ↦
-          let there : bit a.moved (bit_xor a.c (2 ^ q) % 64) ≡ false
-          = sym (ap (λ (m : ℕ). bit a.moved (bit_xor a.c m % 64)) w.letter_mask.ensures) ∙ sym w.among.ensures ∙ w.if-among.false in
+          let there : bit a.moved (bit_xor a.c.letters (2 ^ q) % 64) ≡ false
+          = sym (ap (λ (m : ℕ). bit a.moved (bit_xor a.c.letters m % 64)) w.letter_mask.ensures) ∙ sym w.among.ensures ∙ w.if-among.false in
           rw (there, and-false) refl
-      | else-has w ↦ let heard : bit a.v.unheard q ≡ false = sym c.has.ensures ∙ w.if-has.false in rw heard refl
+      | else-has w ↦ let heard : bit a.v.now.unheard q ≡ false = sym c.has.ensures ∙ w.if-has.false in rw heard refl
     ]
 
 pub loop-q-init : goal.loop-q-init
@@ -35,8 +35,8 @@ pub returns-then-among : goal.returns-then-among
 unfolding nearby
 returns-then-among c =
     let a = c.args in
-    let there = ap (λ (m : ℕ). bit a.moved (bit_xor a.c m % 64)) c.letter_mask.ensures in
-    let found = any_make 6 (leads a.v a.moved a.c) c.loop-q.q (omega arith)
+    let there = ap (λ (m : ℕ). bit a.moved (bit_xor a.c.letters m % 64)) c.letter_mask.ensures in
+    let found = any_make 6 (leads a.v.now a.moved a.c.letters) c.loop-q.q (omega arith)
     (and_make (sym c.has.ensures ∙ c.if-has.true)
     (sym there ∙ sym c.among.ensures ∙ c.if-among.true)) in
     sym (rw found)
@@ -44,8 +44,8 @@ returns-then-among c =
 pub loop-q-preserved : goal.loop-q-preserved
 loop-q-preserved c = (
   omega arith,
-  any_next (leads c.args.v c.args.moved
-      c.args.c) c.loop-q.q c.loop-q.invariant.1 (passed c),
+  any_next (leads c.args.v.now c.args.moved
+      c.args.c.letters) c.loop-q.q c.loop-q.invariant.1 (passed c),
 )
 
 pub returns : goal.returns
@@ -53,5 +53,5 @@ unfolding nearby
 returns c =
     let a = c.args in
     let e : c.loop-q.q ≡ 6 = omega arith in
-    let none : any_below 6 (leads a.v a.moved a.c) ≡ false = rw e at c.loop-q.invariant.1 in
+    let none : any_below 6 (leads a.v.now a.moved a.c.letters) ≡ false = rw e at c.loop-q.invariant.1 in
     c.among-2.ensures ∙ sym (rw none)

@@ -5,9 +5,9 @@ use Rattle.table.specs.Table.{Within, set_to, entry}
 use Rattle.table.proofs.TableLaws.{Before}
 use Rattle.table.proofs.rounds.remain.Given as goal
 
-abbrev pub invariant-loop-v : goal.invariant-loop-v
-invariant-loop-v l = Within l.v.undecided l.d ×
-    (l.count ≡ 0 → Before (λ e. entry l.table (set_to l.c l.v.undecided e) 0 ≡ 255) l.v.undecided l.d)
+abbrev pub invariant-loop-c : goal.invariant-loop-c
+invariant-loop-c l = Within l.v.undecided l.d ×
+    (l.count ≡ 0 → Before (λ e. entry l.table (set_to l.c.letters l.v.undecided e) 0 ≡ 255) l.v.undecided l.d)
 
-abbrev pub decreases-loop-v : goal.decreases-loop-v
-decreases-loop-v l = 256 - l.d
+abbrev pub decreases-loop-c : goal.decreases-loop-c
+decreases-loop-c l = 256 - l.d

@@ -5,26 +5,20 @@ use Rattle.table.specs.Table.{Within}
 use Rattle.table.proofs.TableLaws.{within_none, go_on, same_table, join}
 use borrow.Author.Rules.{rules}
 use Rattle.table.proofs.rounds.tighten_scenario.Goals as goal
-use Rattle.table.proofs.rounds.tighten_scenario.Goals.{Else-d-eq0, Start}
+use Rattle.table.proofs.rounds.tighten_scenario.Goals.{Else-d-eq0}
 
-byte : (c : Start) → c.args.v.undecided < 256
-byte c = search rules
-
-further : (c : Else-d-eq0) (byte_here : c.args.v.undecided < 256) → Within c.args.v.undecided
+further : (c : Else-d-eq0) → Within c.args.v.now.undecided
     c.next_inside-d.result × (c.loop-d.d < c.next_inside-d.result)
-further c byte_here =
-    go_on c.args.v.undecided
-    (byte_here) c.loop-d.d
+further c =
+    go_on c.args.v.now.undecided
+    (search rules) c.loop-d.d
     c.loop-d.invariant.0 _ c.next_inside-d.ensures c.if-d-eq0.false
 
 pub loop-d-init : goal.loop-d-init
 loop-d-init c = (within_none _, same_table)
 
-pub returns-then-d-eq0 : goal.returns-then-d-eq0
-returns-then-d-eq0 c = join c.loop-d.invariant.1 c.tighten_setting-moved.ensures
-
 pub loop-d-smaller : goal.loop-d-smaller
-loop-d-smaller c = let r = further c (byte (goal.at.loop-d-smaller c).Start) in let lt = r.1 in omega arith
+loop-d-smaller c = let r = further c in let lt = r.1 in omega arith
 
 pub loop-d-preserved : goal.loop-d-preserved
-loop-d-preserved c = ((further c (byte (goal.at.loop-d-preserved c).Start)).0, join c.loop-d.invariant.1 c.tighten_setting-moved.ensures)
+loop-d-preserved c = ((further c).0, join c.loop-d.invariant.1 c.tighten_setting-any.ensures)
