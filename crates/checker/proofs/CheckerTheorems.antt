@@ -7,6 +7,7 @@ use Prim.Native.Nat.{ℕ, ◌≤◌}
 use native.Mathlib.Omega.{arith}
 use lib.Dec.{eqb}
 use lib.ListN.{length}
+use Rattle.std.specs.Prelude.{Result, Ok}
 use Rattle.network.specs.Network.{Network}
 use Rattle.network.specs.Strategy.{ConditionScenario, Viable, Dynamic}
 use Rattle.network.specs.Game.{start, Over, Kept}
@@ -16,9 +17,8 @@ use Rattle.network.proofs.Booleans.{by_test, eqb_is, eqb_no}
 use Rattle.network.proofs.PathLaws.{same_strategy, ends, ends_over}
 use Rattle.network.proofs.Theorems.{tree_dynamic, tree_viable_exactly}
 use Rattle.plan.specs.declared.Plan.{Plan}
+use Rattle.plan.specs.declared.Refusal.{Refusal}
 use Rattle.plan.specs.declared.Refusal.TheVariants as refusal
-use Rattle.plan.specs.declared.Judged.{Judged}
-use Rattle.plan.specs.declared.Judged.TheVariants as judged
 use Rattle.plan.specs.Refusal.{refusal_number, judged_number}
 use Rattle.plan.specs.Faults.{first}
 use Rattle.plan.specs.Plan.{network_of}
@@ -110,8 +110,8 @@ module _ (p : Plan) (wf : WellFormed p) (bs : List ℕ) where
 
 -- Of every plan record, and of what the call hands back: yes exactly for a well-formed plan and such bytes; the plan's fault comes first.
 pub checked_yes_exactly :
-    (p : Plan) (bs : List ℕ) (r : Judged) → judged_number r ≡ check_fault p bs →
-    (r ≡ judged.Fine)
+    (p : Plan) (bs : List ℕ) (r : Result (Unit {0}) Refusal) → judged_number r ≡ check_fault p bs →
+    (r ≡ Ok tt)
     ↔ (WellFormed p × ((t : Tree) × Describes (network_of p) bs t × Dynamic (network_of p) (strategy_of (network_of p) t)
     × Viable (network_of p) (strategy_of (network_of p) t)))
 unfolding check_fault first

@@ -9,6 +9,7 @@ use native.Mathlib.Omega.{arith}
 use native.Mathlib.Nat.{not-suc-le-zero}
 use lib.ListN.{length, drop}
 use lib.Seq.{drop_at}
+use Rattle.std.specs.Prelude.{Option}
 use Rattle.network.specs.Mask.{all_below, join_below}
 use Rattle.network.specs.Below.{sum_below}
 use Rattle.network.specs.Network.{Network}
@@ -28,9 +29,8 @@ use Rattle.tree.specs.Trees.{tree_bytes}
 use Rattle.tree.specs.Parts.{node_of}
 use Rattle.tree.proofs.TreeLaws.{tree_length, node_bytes_front}
 use Rattle.game.proofs.LegalLaws.{legal_exactly}
-use Rattle.checker.specs.declared.Checked.{Checked}
-use Rattle.checker.specs.declared.Checked.TheVariants as checked
-use Rattle.checker.specs.Checker.{with_subtrees, node_and_below, subtree_in}
+use Rattle.checker.specs.declared.SoundSubtree.{SoundSubtree}
+use Rattle.checker.specs.Checker.{subtree_of, with_subtrees, node_and_below, subtree_in}
 use Rattle.checker.proofs.SubtreeLaws.{sound_together, legal_node}
 
 -- sound in shape, from any state
@@ -63,10 +63,10 @@ kept_exactly net (node m next) s sd = (
 -- ---- a node, and subtrees each of which is found, whatever stands behind it
 
 pub subtrees_found :
-    (sub : ℕ → List ℕ → Checked) (m : Move) (piece : ℕ → List ℕ) (n : ℕ → ℕ) (b : ℕ → Bool) →
-    ((k : ℕ) → length (piece k) ≡ 3 * n k) → ((k : ℕ) (u : List ℕ) → sub k (piece k ++ u) ≡ checked.Sound (n k) (b k)) →
+    (sub : ℕ → List ℕ → Option SoundSubtree) (m : Move) (piece : ℕ → List ℕ) (n : ℕ → ℕ) (b : ℕ → Bool) →
+    ((k : ℕ) → length (piece k) ≡ 3 * n k) → ((k : ℕ) (u : List ℕ) → sub k (piece k ++ u) ≡ subtree_of (n k) (b k)) →
     (k : ℕ) (u : List ℕ) →
-    with_subtrees sub (node_bytes (node_of m) ++ (join_below k piece ++ u)) k ≡ checked.Sound (suc (sum_below k n)) (all_below k b)
+    with_subtrees sub (node_bytes (node_of m) ++ (join_below k piece ++ u)) k ≡ subtree_of (suc (sum_below k n)) (all_below k b)
 unfolding with_subtrees join_below sum_below all_below
 subtrees_found sub m piece n b long found zero u = refl
 subtrees_found sub m piece n b long found (suc k) u =
@@ -89,7 +89,7 @@ module _ (p : Plan) (wf : WellFormed p) where
   -- n is more than the moves on any path
   pub complete :
       (t : Tree) (n : ℕ) (s : State) (u : List ℕ) → Inside net s → points_left net s < n → ShapedFrom net t s →
-      subtree_in n p s (tree_bytes net t ++ u) ≡ checked.Sound (nodes net t) (all_kept net t s)
+      subtree_in n p s (tree_bytes net t ++ u) ≡ subtree_of (nodes net t) (all_kept net t s)
   unfolding subtree_in Sound nodes all_kept
   complete t zero s u in-s h sd = absurd (not-suc-le-zero h)
   complete done (suc n) s u in-s h sd = rw ((over_is net s).1 sd.0)

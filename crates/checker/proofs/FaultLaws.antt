@@ -9,6 +9,7 @@ use native.Mathlib.Omega.{arith}
 use lib.Dec.{eqb}
 use lib.ListN.{length, drop, length-append}
 use lib.Seq.{drop-length}
+use Rattle.std.specs.Prelude.{Option, None, Some}
 use Rattle.network.specs.Network.{Network}
 use Rattle.network.specs.Strategy.{Viable}
 use Rattle.network.specs.Game.{start}
@@ -29,9 +30,8 @@ use Rattle.tree.specs.Nodes.{legal_length, node_count}
 use Rattle.tree.specs.Trees.{tree_bytes, Describes}
 use Rattle.tree.proofs.NodeLaws.{legal_is, legal_make}
 use Rattle.tree.proofs.TreeLaws.{tree_length}
-use Rattle.checker.specs.declared.Checked.{Checked}
-use Rattle.checker.specs.declared.Checked.TheVariants as checked
-use Rattle.checker.specs.Checker.{subtree_at, tree_fault, check_fault}
+use Rattle.checker.specs.declared.SoundSubtree.{SoundSubtree}
+use Rattle.checker.specs.Checker.{subtree_of, subtree_at, tree_fault, check_fault}
 use Rattle.checker.proofs.CompleteLaws.{all_kept, kept_exactly, complete}
 use Rattle.checker.proofs.FoundLaws.{found}
 
@@ -62,7 +62,7 @@ module _ (p : Plan) (wf : WellFormed p) (bs : List ℕ) where
   described_length : (t : Tree) → Describes net bs t → length bs ≡ 3 * nodes net t
   described_length t d = ap length d.all_bytes ∙ tree_length net t
 
-  pub described_found : (t : Tree) → Describes net bs t → subtree_at p (start net) bs ≡ checked.Sound (nodes net t) (all_kept net t (start net))
+  pub described_found : (t : Tree) → Describes net bs t → subtree_at p (start net) bs ≡ subtree_of (nodes net t) (all_kept net t (start net))
   described_found t d =
       ap (subtree_at p (start net)) (d.all_bytes ∙ sym (append-nil (tree_bytes net t)))
       ∙ complete p wf t _ (start net) [] (start_inside net) (omega arith) d.shaped
@@ -93,7 +93,7 @@ module _ (p : Plan) (wf : WellFormed p) (bs : List ℕ) where
   -- ---- bytes that describe none
 
   -- as many nodes found as all the bytes have
-  whole_tree : (n : ℕ) (b : Bool) → legal_length (length bs) ≡ true → n ≡ node_count bs → subtree_at p (start net) bs ≡ checked.Sound n b →
+  whole_tree : (n : ℕ) (b : Bool) → legal_length (length bs) ≡ true → n ≡ node_count bs → subtree_at p (start net) bs ≡ subtree_of n b →
       WellFormedBytes net bs
   whole_tree n b legal all e =
       let f = found p wf _ (start net) bs n b (start_inside net) e in
@@ -119,12 +119,12 @@ module _ (p : Plan) (wf : WellFormed p) (bs : List ℕ) where
       (λ z. inr (no_plan_fault ∙ rw z))
     where
       judged :
-          legal_length (length bs) ≡ true → (r : Checked) → subtree_at p (start net) bs ≡ r →
+          legal_length (length bs) ≡ true → (r : Option SoundSubtree) → subtree_at p (start net) bs ≡ r →
           WellFormedBytes net bs ⊎ (check_fault p bs ≡ refusal_number refusal.Shape)
-      judged y checked.Unsound e = inr (no_plan_fault ∙ rw (y, e))
-      judged y (checked.Sound n b) e =
-          by_test (eqb n (node_count bs))
-          (λ all. inl (whole_tree n b y (eqb_is n (node_count bs) all) e))
+      judged y None e = inr (no_plan_fault ∙ rw (y, e))
+      judged y (Some t) e =
+          by_test (eqb t.nodes (node_count bs))
+          (λ all. inl (whole_tree t.nodes t.kept y (eqb_is t.nodes (node_count bs) all) e))
           (λ z. inr (no_plan_fault ∙ rw (y, e, z)))
 
   -- ---- what is said, and of which bytes

@@ -11,6 +11,7 @@ use native.Mathlib.Decide.{dec_lt}
 use lib.Dec.{ltb}
 use lib.ListN.{length, drop}
 use lib.Seq.{drop_at}
+use Rattle.std.specs.Prelude.{Option}
 use Rattle.network.specs.Mask.{join_below}
 use Rattle.network.specs.Below.{sum_below, rank}
 use Rattle.network.specs.Network.{Network}
@@ -33,11 +34,10 @@ use Rattle.tree.specs.Parts.{node_of}
 use Rattle.tree.proofs.NodeLaws.{front_node}
 use Rattle.tree.proofs.TreeLaws.{tree_length, done_bytes, node_bytes_front}
 use Rattle.game.proofs.LegalLaws.{legal_exactly}
-use Rattle.checker.specs.declared.Checked.{Checked}
-use Rattle.checker.specs.declared.Checked.TheVariants as checked
-use Rattle.checker.specs.Checker.{with_subtrees, subtree_in}
+use Rattle.checker.specs.declared.SoundSubtree.{SoundSubtree}
+use Rattle.checker.specs.Checker.{subtree_of, with_subtrees, subtree_in}
 use Rattle.checker.proofs.CompleteLaws.{ShapedFrom}
-use Rattle.checker.proofs.SubtreeLaws.{unsound_is_not, both, front_move, subtrees_below, sound_node}
+use Rattle.checker.proofs.SubtreeLaws.{unsound_is_not, same_nodes, both, front_move, subtrees_below, sound_node}
 
 -- ---- families of trees
 
@@ -120,11 +120,11 @@ module _ (net : Network) where
 
   -- what is found below a node, where each subtree that is found is a tree
   trees_found :
-      (at : ℕ → State) (sub : ℕ → List ℕ → Checked) →
-      ((k : ℕ) (bs : List ℕ) (n : ℕ) (b : Bool) → sub k bs ≡ checked.Sound n b → FoundTree (at k) bs n) → (bs : List ℕ) →
-      3 ≤ length bs → (k n : ℕ) (b : Bool) → with_subtrees sub bs k ≡ checked.Sound n b → FoundTrees at bs k n
+      (at : ℕ → State) (sub : ℕ → List ℕ → Option SoundSubtree) →
+      ((k : ℕ) (bs : List ℕ) (n : ℕ) (b : Bool) → sub k bs ≡ subtree_of n b → FoundTree (at k) bs n) → (bs : List ℕ) →
+      3 ≤ length bs → (k n : ℕ) (b : Bool) → with_subtrees sub bs k ≡ subtree_of n b → FoundTrees at bs k n
   unfolding with_subtrees
-  trees_found at sub found bs h zero n b e = let q : 1 ≡ n = cc in subst (FoundTrees at bs 0) q (no_trees at bs h)
+  trees_found at sub found bs h zero n b e = let q : 1 ≡ n = same_nodes 1 n true b e in subst (FoundTrees at bs 0) q (no_trees at bs h)
   trees_found at sub found bs h (suc k) n b e =
       let r = both (with_subtrees sub bs k) (λ i. sub k (drop (3 * i) bs)) n b e in
       subst (FoundTrees at bs (suc k)) (sym r.nodes)
@@ -166,14 +166,13 @@ module _ (net : Network) where
 
 pub found :
     (p : Plan) → WellFormed p → (i : ℕ) (s : State) (bs : List ℕ) (n : ℕ) (b : Bool) → Inside (network_of p) s →
-    subtree_in i p s bs ≡ checked.Sound n b → FoundTree (network_of p) s bs n
+    subtree_in i p s bs ≡ subtree_of n b → FoundTree (network_of p) s bs n
 unfolding subtree_in
 found p wf zero s bs n b in-s e = unsound_is_not n b e
 found p wf (suc i) s bs n b in-s e =
     let net = network_of p in
     by_test (over net s)
-    (λ y. let q : checked.Sound 0 (kept net s) ≡ checked.Sound n b = rw y at e in
-    let z : 0 ≡ n = cc in
+    (λ y. let z : 0 ≡ n = same_nodes 0 n (kept net s) b (rw y at e) in
     subst (FoundTree net s bs) z (tree_ended net s bs y))
     (λ z. let r = sound_node p (subtree_in i p) s bs n b (rw z at e) in
     let m = front_move bs in

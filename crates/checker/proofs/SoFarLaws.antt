@@ -18,24 +18,24 @@ use Rattle.game.specs.declared.Position.{Position}
 use Rattle.game.specs.Position.{state_of, Proper, keeps_so_far_in}
 use Rattle.game.proofs.PositionLaws.{inside_is}
 use Rattle.game.proofs.SoFarLaws.{so_far_is}
-use Rattle.checker.specs.declared.Checked.TheVariants as checked
-use Rattle.checker.specs.Checker.{subtree_at}
+use Rattle.checker.specs.Checker.{subtree_of, subtree_at}
 use Rattle.checker.proofs.CompleteLaws.{all_kept, kept_exactly, complete}
+use Rattle.checker.proofs.SubtreeLaws.{same_kept}
 use Rattle.checker.proofs.FoundLaws.{found}
 
 -- what is found of the paths below says as much as what is kept so far
 pub kept_so_far_lem :
     (p : Plan) → WellFormed p → (at : Position) → Proper p at → (bs : List ℕ) (n : ℕ) (b : Bool) →
-    subtree_at p (state_of p at) bs ≡ checked.Sound n b → (keeps_so_far_in p at && b) ≡ b
+    subtree_at p (state_of p at) bs ≡ subtree_of n b → (keeps_so_far_in p at && b) ≡ b
 kept_so_far_lem p wf at ok bs n b e =
     let net : Network = network_of p in
     let s : State = state_of p at in
     let in-s = inside_is p wf at ok in
     let f = found p wf _ s bs n b in-s e in
-    let again : subtree_at p s bs ≡ checked.Sound (nodes net f.tree) (all_kept net f.tree s)
+    let again : subtree_at p s bs ≡ subtree_of (nodes net f.tree) (all_kept net f.tree s)
     = ap (subtree_at p s) f.is ∙ complete p wf f.tree _ s f.behind in-s (omega arith) f.sound in
     let same : all_kept net f.tree s ≡ b
-    = let q : checked.Sound (nodes net f.tree) (all_kept net f.tree s) ≡ checked.Sound n b = sym again ∙ e in cc in
+    = same_kept (nodes net f.tree) n _ b (sym again ∙ e) in
     by_test b
     (λ y. let won = (kept_exactly net f.tree s f.sound).0 (same ∙ y) in
     let kept = so_far_is p wf at ok ∙ won_keeps net (is_network p wf) s (record { tree = f.tree; sound = won }) in

@@ -8,72 +8,68 @@ ghost use Rattle.game.specs.Position.{state_of, Proper};
 ghost use Rattle.checker.specs.Checker.{subtree_at, check_fault};
 
 use game::Position;
-use plan::{Judged, Plan, Refusal, letters};
+use plan::{Plan, Refusal, letters};
 
-// What stands at the front of some bytes: no subtree that is sound in shape, or one of so many nodes, and whether every path of it keeps
-// every relevant constraint.
+// A subtree that is sound in shape: its number of nodes, and whether every path of it keeps every relevant constraint.
 #[derive(Clone, Copy)]
-pub enum Checked {
-    Unsound,
-    Sound(usize, bool),
+pub struct SoundSubtree {
+    pub nodes: usize,
+    pub kept: bool,
 }
 
-// The subtree at the front of the bytes, below a path that stands at this position, which carries the points performed on that path. With each
-// level fewer points are left. What is kept so far is tested at each node, by the points performed and the letters that they disclose; the
-// shape is read to its end all the same, since 6 comes before 7.
-pub fn subtree(plan: Plan, nodes: &[u8], at: Position) -> Checked
+// The subtree at the front of the bytes, or none that is sound in shape, below a path that stands at this position, which carries the points
+// performed on that path. With each level fewer points are left. What is kept so far is tested at each node, by the points performed and the
+// letters that they disclose; the shape is read to its end all the same, since 6 comes before 7.
+pub fn subtree(plan: Plan, nodes: &[u8], at: Position) -> Option<SoundSubtree>
     requires { WellFormed plan × Proper plan at }
     ensures { result ≡ subtree_at plan (state_of plan at) nodes.now }
 {
     let kept_so_far = game::keeps_so_far(plan, at);
     if at.left == 0 {
-        return Checked::Sound(0, kept_so_far);
+        return Some(SoundSubtree {
+            nodes: 0,
+            kept: kept_so_far,
+        });
     }
     if nodes.len() < 3 {
-        return Checked::Unsound; // a node is missing
+        return None; // a node is missing
     }
     let v = tree::node_at(nodes, 0);
     if !game::legal(plan, at, v) {
-        return Checked::Unsound; // the move breaks a rule
+        return None; // the move breaks a rule
     }
     let heard = letters::heard(plan, v.points);
     let outcomes = masks::submasks(heard);
     let mut count: usize = 1;
     let mut kept = true;
-    let mut k: u16 = 0;
-    while k < outcomes {
+    for k in 0..outcomes {
         let next = game::after(at, v, masks::numbered(heard, k));
-        let below = subtree(plan, &nodes[3 * count..], next);
-        let Checked::Sound(m, b) = below else {
-            return Checked::Unsound;
-        };
-        count += m;
-        kept = kept & b;
-        k += 1;
+        let below = subtree(plan, &nodes[3 * count..], next)?;
+        count += below.nodes;
+        kept &= below.kept;
     }
-    Checked::Sound(count, kept_so_far & kept)
+    Some(SoundSubtree {
+        nodes: count,
+        kept: kept_so_far & kept,
+    })
 }
 
 // Whether the bytes are a tree for the plan: fine, or the first of 2, 3, 4 (the plan), 6 (its shape), 7 (a broken constraint).
-pub fn check_tree(plan: Plan, nodes: &[u8]) -> Judged
+pub fn check_tree(plan: Plan, nodes: &[u8]) -> Result<(), Refusal>
     ensures { judged_number result ≡ check_fault plan nodes.now }
 {
-    let judged = judge::judge(plan);
-    let Judged::Fine = judged else {
-        return judged;
-    };
+    judge::judge(plan)?;
     if !tree::legal_length(nodes.len()) {
-        return Judged::Refused(Refusal::Shape); // no tree has this length
+        return Err(Refusal::Shape); // no tree has this length
     }
-    let found = subtree(plan, nodes, game::start(plan));
-    let Checked::Sound(count, kept) = found else {
-        return Judged::Refused(Refusal::Shape); // some rule of shape is broken
+    let Some(found) = subtree(plan, nodes, game::start(plan)) else {
+        return Err(Refusal::Shape); // some rule of shape is broken
     };
-    if count != tree::node_count(nodes) {
-        return Judged::Refused(Refusal::Shape); // nodes are left over
+    if found.nodes != tree::node_count(nodes) {
+        return Err(Refusal::Shape); // nodes are left over
     }
-    if !kept {
-        return Judged::Refused(Refusal::Broken);
+    if !found.kept {
+        return Err(Refusal::Broken);
     }
-    Judged::Fine
+    Ok(())
 }

@@ -1,19 +1,24 @@
 -- Laws of a list of calls as bytes, and of the record of a crew's progress. Only the checker need believe this file.
 use mathlib.Core.Path.{◌≡◌, refl, sym, ap, ◌∙◌, subst}
 use mathlib.Core.List.{List, [], ◌∷◌, ◌++◌, map, append-nil, map-append}
-use Prim.Native.Nat.{ℕ, zero, suc, ◌+◌, ◌-◌, ◌≤◌, ◌<◌}
+use Prim.Native.Nat.{ℕ, zero, suc, ◌+◌, ◌-◌, ◌*◌, ◌/◌, ◌≤◌, ◌<◌}
 use native.Mathlib.Omega.{arith}
+use native.Mathlib.Nat.{not-suc-le-zero}
 use lib.Dec.{eqb}
-use lib.ListN.{length, get_or, drop, set, replicate, length-append, length-drop, length-map}
+use lib.ListN.{length, get_or, take, drop, set, replicate, length-append, length-map}
+use lib.Seq.{drop-drop, get_or-take}
+use Rattle.std.specs.Simd.{first_chunks}
 use Rattle.network.specs.Crew as crew
 use Rattle.network.proofs.Booleans.{by_test, eqb_is, differs}
 use Rattle.plan.specs.declared.Plan.{Plan}
 use Rattle.plan.specs.Answer.{Answer}
-use Rattle.plan.proofs.SliceLaws.{rest as part, rest_is, padded, put_next}
+use Rattle.plan.proofs.SliceLaws.{padded, put_next}
 use Rattle.run.specs.declared.Instruction.{Instruction}
 use Rattle.run.specs.declared.History.{History}
+use Rattle.run.specs.declared.Shown.{Shown}
+use Rattle.run.specs.declared.Shown.TheVariants as shown
 use Rattle.run.specs.Run.{show_answer, report_answer}
-use Rattle.run.specs.Told.{Told, instruct, complete, refuse, instructed}
+use Rattle.run.specs.Told.{Told, instruct, complete, refuse, instructed, shown_told}
 use Rattle.run.proofs.RunTheorems.{accepted_longer, refused_same}
 use Rattle.following.specs.declared.Followed.{Followed}
 use Rattle.following.specs.Calls.{Call, showing, reporting, Progress, begun, steps_of, after_call, after_calls}
@@ -35,12 +40,26 @@ calls_next [] le = absurd (omega arith)
 calls_next (kind ∷ []) le = absurd (omega arith)
 calls_next (kind ∷ o ∷ bytes) le = refl
 
-pub call_shows : (kind o : ℕ) → kind ≡ 0 → call_of kind o ≡ showing
-call_shows kind o e = rw e
+-- chunk i of the first k chunks of n bytes
+chunk_at : (n k : ℕ) (bytes : List ℕ) (i : ℕ) → i < k → get_or (first_chunks n k bytes) i [] ≡ take n (drop (n * i) bytes)
+chunk_at n zero bytes i lt = absurd (not-suc-le-zero lt)
+chunk_at n (suc k) bytes zero lt = let none : 0 ≡ n * 0 = omega arith in ap (λ (j : ℕ). take n (drop j bytes)) none
+chunk_at n (suc k) bytes (suc i) lt =
+    let there : n + n * i ≡ n * suc i = omega arith in
+    chunk_at n k (drop n bytes) i (omega arith) ∙ ap (take n) (drop-drop (n * i) n bytes ∙ ap (λ (j : ℕ). drop j bytes) there)
 
-pub call_reports : (kind o : ℕ) → ¬ (kind ≡ 0) → call_of kind o ≡ reporting o
-call_reports zero o n = absurd (n refl)
-call_reports (suc kind) o n = refl
+-- the call that chunk i of two bytes is
+pub call_at :
+    (bytes : List ℕ) (chunks : List (List ℕ)) (i : ℕ) (c : Call) → chunks ≡ first_chunks 2 (length bytes / 2) bytes → i < length bytes / 2 →
+    c ≡ call_of (get_or (get_or chunks i []) 0 0) (get_or (get_or chunks i []) 1 0) →
+    c ≡ call_of (get_or (drop (2 * i) bytes) 0 0) (get_or (drop (2 * i) bytes) 1 0)
+call_at bytes chunks i c e lt is =
+    let left = drop (2 * i) bytes in
+    let chunk : get_or chunks i [] ≡ take 2 left = ap (λ (cs : List (List ℕ)). get_or cs i []) e ∙ chunk_at 2 (length bytes / 2) bytes i lt in
+    is
+    ∙ ap (λ (b : List ℕ). call_of (get_or b 0 0) (get_or b 1 0)) chunk
+    ∙ ap (λ (k : ℕ). call_of k (get_or (take 2 left) 1 0)) (get_or-take 2 left 0 0 (omega arith))
+    ∙ ap (call_of (get_or left 0 0)) (get_or-take 2 left 1 0 (omega arith))
 
 -- ---- the steps of one report
 
@@ -52,13 +71,11 @@ no_step_refused (instruct m) o (suc fault) n = refl
 no_step_refused complete o fault n = refl
 no_step_refused (refuse k) o fault n = refl
 
-pub no_step_done : (t : Told) (o fault : ℕ) → t ≡ complete → steps_of t o fault ≡ []
+pub no_step_untold : (t : Shown) → ((v : Instruction) → ¬ (t ≡ shown.Instruct v)) → (o fault : ℕ) → steps_of (shown_told t) o fault ≡ []
 unfolding steps_of
-no_step_done t o fault e = rw e
-
-pub no_step_told : (t : Told) (n o fault : ℕ) → t ≡ refuse n → steps_of t o fault ≡ []
-unfolding steps_of
-no_step_told t n o fault e = rw e
+no_step_untold (shown.Instruct v) n o fault = absurd (n v refl)
+no_step_untold shown.Done n o fault = refl
+no_step_untold (shown.Refused r) n o fault = refl
 
 pub one_step :
     (t : Told) (v : Instruction) (o fault : ℕ) → t ≡ instruct (instructed v) → fault ≡ 0 →
@@ -91,19 +108,18 @@ record_more h log st lt =
     λ i. record { history = h; count = length-append log (st ∷ []) i; steps = sym steps i }
 
 -- a showing leaves everything
-pub shown_leaves : (p : Plan) (tree : List ℕ) (f : Followed) (kind o : ℕ) → kind ≡ 0 → AfterCall p tree f kind o f
+pub shown_leaves : (p : Plan) (tree : List ℕ) (f : Followed) → AfterCall p tree f showing f
 unfolding after_call
-shown_leaves p tree f kind o e s is = is ∙ ap followed_record (sym (ap (after_call the_run p tree s) (call_shows kind o e)))
+shown_leaves p tree f s is = is
 
 -- A report: what was told before it and what it answered, by the definitions.
-pub record AtReport (p : Plan) (tree : List ℕ) (f : Followed) (kind o : ℕ) (told : Told) (answer : Answer History) : Type 0 where
-  pub reports : ¬ (kind ≡ 0)
+pub record AtReport (p : Plan) (tree : List ℕ) (f : Followed) (o : ℕ) (told : Told) (answer : Answer History) : Type 0 where
   pub told_is : told ≡ show_answer p tree f.history
   pub answer_is : answer ≡ report_answer p tree f.history o
 
 module _
-    (p : Plan) (tree : List ℕ) (f : Followed) (kind o : ℕ) (told : Told) (answer : Answer History)
-    (r : AtReport p tree f kind o told answer) where
+    (p : Plan) (tree : List ℕ) (f : Followed) (o : ℕ) (told : Told) (answer : Answer History)
+    (r : AtReport p tree f o told answer) where
   -- what the call leaves
   module _ (s : Progress) (is : f ≡ followed_record s) where
     history_is : f.history ≡ s.history
@@ -128,16 +144,15 @@ module _
     -- .. where it follows these steps
     left_with :
         (more : List crew.Step) → steps_of told o answer.fault ≡ more →
-        after_call the_run p tree s (call_of kind o) ≡ record { history = answer.value; steps = s.steps ++ more }
+        after_call the_run p tree s (reporting o) ≡ record { history = answer.value; steps = s.steps ++ more }
     left_with more e =
-        ap (after_call the_run p tree s) (call_reports kind o r.reports)
-        ∙ left_is
+        left_is
         ∙ ap (λ (l : List crew.Step). record { history = answer.value; steps = s.steps ++ l }) e
 
   -- no step more
   pub as_before :
       steps_of told o answer.fault ≡ [] →
-      AfterCall p tree f kind o (record { history = answer.value; count = f.count; steps = f.steps })
+      AfterCall p tree f (reporting o) (record { history = answer.value; count = f.count; steps = f.steps })
   unfolding followed_record
   as_before none s is =
       ap (λ (x : Followed). record { history = answer.value; count = x.count; steps = x.steps }) is
@@ -147,7 +162,7 @@ module _
   -- one step more
   pub step_more :
       (v : Instruction) → steps_of told o answer.fault ≡ record { instruction = instructed v; report = o } ∷ [] → f.count < 8 →
-      AfterCall p tree f kind o (one_step_more f answer.value v o)
+      AfterCall p tree f (reporting o) (one_step_more f answer.value v o)
   unfolding followed_record
   step_more v one lt s is =
       let count_is = ap (λ (x : Followed). x.count) is in
@@ -207,10 +222,6 @@ stand_begins p tree h f bytes e =
       leads = refl;
     }
 
--- what is left of the bytes is less
-pub fewer_bytes : (bytes : List ℕ) → 2 ≤ length bytes → length (part 2 bytes) < length bytes
-fewer_bytes bytes le = rw (rest_is 2 bytes) (let d = length-drop 2 bytes in omega arith)
-
 module _ (p : Plan) (tree : List ℕ) (whole : Progress) (f : Followed) (bytes : List ℕ) (w : Stands p tree whole f bytes) where
   -- the record has no more steps than its history has reports
   pub steps_fit : f.count ≤ f.history.count
@@ -224,16 +235,14 @@ module _ (p : Plan) (tree : List ℕ) (whole : Progress) (f : Followed) (bytes :
 
   -- one call more
   pub stand_on :
-      (kind o : ℕ) → kind ≡ get_or bytes 0 0 → o ≡ get_or bytes 1 0 → 2 ≤ length bytes → (r : Followed) → AfterCall p tree f kind o r →
-      Stands p tree whole r (part 2 bytes)
+      (c : Call) → c ≡ call_of (get_or bytes 0 0) (get_or bytes 1 0) → 2 ≤ length bytes → (r : Followed) → AfterCall p tree f c r →
+      Stands p tree whole r (drop 2 bytes)
   unfolding after_calls
-  stand_on kind o e q le r after =
-      let call = call_of kind o in
-      let next : calls_in bytes ≡ call ∷ calls_in (part 2 bytes)
-      = calls_next bytes le ∙ rw (← e, ← q, rest_is 2 bytes) in
+  stand_on c e le r after =
+      let next : calls_in bytes ≡ c ∷ calls_in (drop 2 bytes) = calls_next bytes le ∙ rw e in
       record {
-        progress = after_call the_run p tree w.progress call;
+        progress = after_call the_run p tree w.progress c;
         is = after w.progress w.is;
-        within = call_within p tree w.progress call w.within;
+        within = call_within p tree w.progress c w.within;
         leads = ap (after_calls the_run p tree w.progress) (sym next) ∙ w.leads;
       }

@@ -1,23 +1,42 @@
 // A crew's list of calls, made one after the other: the lists of demand 3 (crate `demands`) as running code.
 #![tactic(auto)]
 
-ghost use Rattle.std.specs.Prelude.{◌≡◌, ◌≤◌, ◌<◌};
+ghost use Rattle.std.specs.Prelude.{◌≡◌, ◌≤◌, ◌<◌, get_or};
 ghost use Rattle.following.specs.Calls.{begun, after_calls};
 ghost use Rattle.following.specs.ThisRun.{the_run};
-ghost use Rattle.following.specs.Following.{calls_in, followed_record};
-ghost use Rattle.following.specs.OneCall.{one_step_more, AfterCall};
+ghost use Rattle.following.specs.Following.{call_of, calls_in, followed_record};
+ghost use Rattle.following.specs.OneCall.{meant, one_step_more, AfterCall};
 
-use plan::{Judged, Plan};
+use plan::Plan;
 use run::{History, Instruction, Shown};
 
-// An instruction that was followed, and the report that was accepted there.
+// A call: a showing, or the report of a mask.
 #[derive(Clone, Copy)]
+enum Call {
+    Show,
+    Report(u8),
+}
+
+// Two bytes are a call: 0 and any byte, or another byte and a mask.
+impl From<[u8; 2]> for Call {
+    ghost from_gives = { λ bytes call. meant call ≡ call_of (get_or bytes 0 0) (get_or bytes 1 0) };
+
+    fn from(bytes: [u8; 2]) -> Call {
+        match bytes {
+            [0, _] => Call::Show,
+            [_, mask] => Call::Report(mask),
+        }
+    }
+}
+
+// An instruction that was followed, and the report that was accepted there.
+#[derive(Clone, Copy, Default)]
 pub struct Step {
     pub instruction: Instruction,
     pub report: u8,
 }
 
-// How far a crew has come: its history, how many steps it followed, and the steps in order, zeros behind them.
+// How far a crew has come: its history, how many steps it followed, and the steps in order, zeros behind them (fixed memory, no heap).
 #[derive(Clone, Copy)]
 pub struct Followed {
     pub history: History,
@@ -25,70 +44,49 @@ pub struct Followed {
     pub steps: [Step; 8],
 }
 
-// At this history, no step followed yet.
-fn begin(history: History) -> Followed
-    ensures { result ≡ followed_record (begun history) }
-{
-    let nothing = Instruction {
-        slot: 0,
-        points: 0,
-        choices: 0,
-    };
-    let none = Step {
-        instruction: nothing,
-        report: 0,
-    };
-    Followed {
-        history: history,
-        count: 0,
-        steps: [none; 8],
+impl Followed {
+    // At this history, no step followed yet.
+    fn begin(history: History) -> Followed
+        ensures { result ≡ followed_record (begun history) }
+    {
+        Followed {
+            history,
+            count: 0,
+            steps: [Step::default(); 8],
+        }
     }
-}
 
-// With one step more, which left this history.
-fn with_step(progress: Followed, history: History, instruction: Instruction, mask: u8) -> Followed
-    requires { progress.count < 8 }
-    ensures { result ≡ one_step_more progress history instruction mask }
-{
-    let at = progress.count as usize;
-    let mut steps = progress.steps;
-    steps[at] = Step {
-        instruction: instruction,
-        report: mask,
-    };
-    Followed {
-        history: history,
-        count: progress.count + 1,
-        steps: steps,
+    // With one step more.
+    fn with_step(mut self, instruction: Instruction, report: u8) -> Followed
+        requires { self.count < 8 }
+        ensures { result ≡ one_step_more self self.history instruction report }
+    {
+        self.steps[self.count as usize] = Step {
+            instruction,
+            report,
+        };
+        self.count += 1;
+        self
     }
 }
 
 // After one call. A showing leaves everything; a report leaves the history that it hands back and, where it was accepted, a step more.
-fn after_call(plan: Plan, nodes: &[u8], progress: Followed, kind: u8, mask: u8) -> Followed
+fn after_call(plan: Plan, nodes: &[u8], progress: Followed, call: Call) -> Followed
     requires { progress.count ≤ progress.history.count }
-    ensures { AfterCall plan nodes.now progress kind mask result }
+    ensures { AfterCall plan nodes.now progress (meant call) result }
 {
-    if kind == 0 {
+    let Call::Report(mask) = call else {
         return progress;
-    }
-    let given = progress.history;
-    let shown = run::show(plan, nodes, given);
-    let reported = given.report(plan, nodes, mask);
-    let handed_back = reported.history;
-    let answer = reported.answer;
-    let steps = progress.steps;
-    let as_before = Followed {
-        history: handed_back,
-        count: progress.count,
-        steps: steps,
     };
-    let Judged::Fine = answer else {
-        return as_before;
+    let told = run::show(plan, nodes, progress.history);
+    let reported = progress.history.report(plan, nodes, mask);
+    let left = Followed {
+        history: reported.history,
+        ..progress
     };
-    match shown {
-        Shown::Instruct(v) => with_step(progress, handed_back, v, mask),
-        Shown::Done => as_before,
-        Shown::Refused(_) => as_before,
+    match (told, reported.answer) {
+        (Shown::Instruct(v), Ok(())) => left.with_step(v, mask),
+        _ => left,
     }
 }
 
@@ -97,12 +95,9 @@ fn after_call(plan: Plan, nodes: &[u8], progress: Followed, kind: u8, mask: u8) 
 pub fn follow(plan: Plan, nodes: &[u8], history: History, calls: &[u8]) -> Followed
     ensures { result ≡ followed_record (after_calls the_run plan nodes.now (begun history) (calls_in calls.now)) }
 {
-    let mut progress = begin(history);
-    let mut rest = calls;
-    while 2 <= rest.len() {
-        let next = after_call(plan, nodes, progress, rest[0], rest[1]);
-        progress = next;
-        rest = &rest[2..];
+    let mut progress = Followed::begin(history);
+    for bytes in calls.as_chunks::<2>().0 {
+        progress = after_call(plan, nodes, progress, Call::from(*bytes));
     }
     progress
 }

@@ -2,17 +2,15 @@
 use mathlib.Core.Path.{◌≡◌, refl, sym, ap, ◌∙◌, subst}
 use mathlib.Core.Bool.{Bool, true, false}
 use mathlib.Core.List.{List, [], ◌∷◌}
-use Prim.Native.Nat.{ℕ, ◌+◌, ◌*◌, ◌^◌, ◌≤◌, ◌<◌}
-use native.Mathlib.Numerals.{add-one}
+use Prim.Native.Nat.{ℕ, ◌*◌, ◌^◌, ◌≤◌}
 use native.Mathlib.Omega.{arith}
-use lib.ListN.{length, get_or, take, drop, length-drop, drop_of_length-le, length-replicate}
-use lib.Seq.{length-take-le, drop-cons, get_or-take}
+use lib.ListN.{length, length-drop, length-replicate}
+use Rattle.std.specs.Prelude.{Ok}
 use Rattle.network.specs.Mask.{bit, count}
 use Rattle.network.specs.Game.{State, start, after}
 use Rattle.network.proofs.Booleans.{eqb_no}
 use Rattle.plan.specs.declared.Plan.{Plan}
 use Rattle.plan.specs.declared.Refusal.TheVariants as refusal
-use Rattle.plan.specs.declared.Judged.TheVariants as judged
 use Rattle.plan.specs.Refusal.{refusal_number}
 use Rattle.plan.specs.Plan.{network_of}
 use Rattle.plan.specs.Letters.{heard_by}
@@ -27,8 +25,7 @@ use Rattle.game.specs.declared.Position.{Position}
 use Rattle.game.specs.Carried.{start_position, position_after}
 use Rattle.game.specs.Position.{state_of, Proper, is_legal}
 use Rattle.game.proofs.PositionLaws.{start_is, start_proper, inside_is, over_is_zero, after_long, after_proper, after_is}
-use Rattle.checker.specs.declared.Checked.TheVariants as checked
-use Rattle.checker.specs.Checker.{subtree_at, check_fault}
+use Rattle.checker.specs.Checker.{subtree_of, subtree_at, check_fault}
 use Rattle.checker.proofs.SubtreeLaws.{sound_node, step, within_bytes}
 use Rattle.checker.proofs.CodeLaws.{below}
 use Rattle.checker.proofs.FaultLaws.{described_found}
@@ -45,17 +42,6 @@ part = slice.rest
 pub no_longer : (n : ℕ) (bs : List ℕ) (m : ℕ) → length bs ≤ m → length (part n bs) ≤ m
 no_longer n bs m le = rw (rest_is n bs) (let d = length-drop n bs in omega arith)
 
--- mask i of the first n masks, and those behind it
-pub mask_next :
-    (n : ℕ) (masks : List ℕ) (i : ℕ) → i < n → n ≤ length masks →
-    drop i (take n masks) ≡ get_or masks i 0 ∷ drop (i + 1) (take n masks)
-mask_next n masks i lt le =
-    let long = length-take-le n masks le in
-    drop-cons (take n masks) i 0 (omega arith) ∙ rw (get_or-take n masks i 0 lt, add-one i)
-
-pub no_mask : (n : ℕ) (masks : List ℕ) → n ≤ length masks → drop n (take n masks) ≡ []
-no_mask n masks le = let long = length-take-le n masks le in drop_of_length-le (take n masks) {i = n} (omega arith)
-
 -- Where the walk stands: a sound subtree at the front of the rest of the bytes, and masks still to be followed, which lead to what is told.
 pub record Walked (p : Plan) (told : Told) (at : Position) (rest os : List ℕ) : Type 0 where
   pub wf : WellFormed p
@@ -63,7 +49,7 @@ pub record Walked (p : Plan) (told : Told) (at : Position) (rest os : List ℕ) 
   pub long : length at.slots ≡ 8
   pub nodes : ℕ
   pub kept : Bool
-  pub sound : subtree_at p (state_of p at) rest ≡ checked.Sound nodes kept
+  pub sound : subtree_at p (state_of p at) rest ≡ subtree_of nodes kept
   pub leads : told_from p (state_of p at) rest os ≡ told
 
 module _ (p : Plan) (told : Told) (at : Position) (rest os : List ℕ) (w : Walked p told at rest os) where
@@ -170,7 +156,7 @@ module _ (p : Plan) (told : Told) (at : Position) (rest : List ℕ) (o : ℕ) (o
 
 -- bytes that the checker accepts: the plan is well formed, and they describe a tree
 pub accepted_plan : (p : Plan) (bs : List ℕ) → check_fault p bs ≡ 0 → WellFormed p
-accepted_plan p bs e = ((checked_yes_exactly p bs judged.Fine (sym e)).0 refl).0
+accepted_plan p bs e = ((checked_yes_exactly p bs (Ok tt) (sym e)).0 refl).0
 
 pub walk_begins :
     (p : Plan) (bs os : List ℕ) → check_fault p bs ≡ 0 → Walked p (told_from p (start (network_of p)) bs os) (start_position p) bs os

@@ -8,6 +8,7 @@ use native.Mathlib.Omega.{arith}
 use lib.Dec.{eqb}
 use lib.ListN.{length, drop}
 use lib.Seq.{drop_at, length-take-le}
+use Rattle.std.specs.Prelude.{Option}
 use Rattle.network.specs.Mask.{bit, join_below}
 use Rattle.network.specs.Below.{sum_below}
 use Rattle.network.specs.Network.{Network}
@@ -32,9 +33,8 @@ use Rattle.tree.specs.Parts.{from_node}
 use Rattle.tree.specs.Trees.{tree_bytes, Describes}
 use Rattle.tree.specs.Parts.{node_of}
 use Rattle.tree.proofs.TreeLaws.{subtrees_bytes, node_bytes_front, tree_length}
-use Rattle.checker.specs.declared.Checked.{Checked}
-use Rattle.checker.specs.declared.Checked.TheVariants as checked
-use Rattle.checker.specs.Checker.{with_subtrees, subtree_at, tree_fault, check_fault}
+use Rattle.checker.specs.declared.SoundSubtree.{SoundSubtree}
+use Rattle.checker.specs.Checker.{subtree_of, with_subtrees, subtree_at, tree_fault, check_fault}
 use Rattle.checker.proofs.CompleteLaws.{ShapedFrom, all_kept, subtrees_found, complete}
 use Rattle.checker.proofs.CheckerTheorems.{yes_exactly}
 use Rattle.run.specs.declared.History.{History}
@@ -94,8 +94,8 @@ module _ (p : Plan) (wf : WellFormed p) where
         (ap (λ (x : List ℕ). x ++ rest) split.1
         ∙ append_assoc (join_below k piece) (piece k ++ split.0) rest
         ∙ ap (λ (x : List ℕ). join_below k piece ++ x) (append_assoc (piece k) split.0 rest)) in
-        let sub : ℕ → List ℕ → Checked = λ i. subtree_at p (after net s m (outcome_at net m i)) in
-        let found : with_subtrees sub front k ≡ checked.Sound (suc (sum_below k size)) _
+        let sub : ℕ → List ℕ → Option SoundSubtree = λ i. subtree_at p (after net s m (outcome_at net m i)) in
+        let found : with_subtrees sub front k ≡ subtree_of (suc (sum_below k size)) _
         = ap (λ (x : List ℕ). with_subtrees sub x k) parts
         ∙ subtrees_found sub m piece size (λ i. all_kept net (next (outcome_at net m i)) (after net s m (outcome_at net m i)))
         (λ i. tree_length net (next (outcome_at net m i)))

@@ -3,12 +3,13 @@ use mathlib.Core.Path.{◌≡◌, sym, ap, ◌∙◌, subst}
 use mathlib.Core.Logic.{by_cases}
 use mathlib.Core.Bool.{Bool, true, ◌&&◌}
 use mathlib.Core.List.{List}
-use Prim.Native.Nat.{ℕ, zero, suc, ◌+◌, ◌*◌, ◌≤◌, ◌<◌}
+use Prim.Native.Nat.{ℕ, zero, suc, ◌+◌, ◌*◌, ◌^◌, ◌≤◌, ◌<◌}
 use native.Mathlib.Decide.{dec_lt}
 use native.Mathlib.Nat.{not-suc-le-zero}
 use native.Mathlib.Omega.{arith}
 use lib.ListN.{length, length-drop}
-use Rattle.network.specs.Mask.{bit, submask}
+use Rattle.std.specs.Prelude.{Option, None}
+use Rattle.network.specs.Mask.{bit, count, submask}
 use Rattle.network.specs.Below.{rank}
 use Rattle.network.specs.Game.{hears, Legal, Outcome, outcome_at, after}
 use Rattle.network.proofs.Booleans.{clash}
@@ -18,7 +19,7 @@ use Rattle.plan.specs.declared.Plan.{Plan}
 use Rattle.plan.specs.Plan.{network_of}
 use Rattle.plan.specs.Letters.{heard_by}
 use Rattle.plan.specs.WellFormed.{WellFormed}
-use Rattle.plan.proofs.OutcomeLaws.{numbered_is_outcome}
+use Rattle.plan.proofs.OutcomeLaws.{numbered_is_outcome, submasks_are_outcomes}
 use Rattle.tree.specs.declared.Node.{Node}
 use Rattle.tree.specs.Parts.{node_at}
 use Rattle.tree.specs.Parts.{from_node, move_of}
@@ -27,28 +28,27 @@ use Rattle.game.specs.Position.{state_of, Proper, is_legal}
 use Rattle.game.proofs.LegalLaws.{legal_exactly}
 use Rattle.game.proofs.PositionLaws.{inside_is}
 use Rattle.game.proofs.NextLaws.{next_is}
-use Rattle.checker.specs.declared.Checked.{Checked}
-use Rattle.checker.specs.declared.Checked.TheVariants as checked
-use Rattle.checker.specs.Checker.{with_subtrees, subtree_at}
+use Rattle.checker.specs.declared.SoundSubtree.{SoundSubtree}
+use Rattle.checker.specs.Checker.{subtree_of, with_subtrees, subtree_at}
 use Rattle.checker.proofs.SubtreeLaws.{both}
 use Rattle.checker.proofs.CodeLaws.{below, AtNode, at_node, subtrees_none, subtrees_on, subtrees_stop}
 use Rattle.run.specs.Run.{nodes_found, nodes_before}
 use Rattle.run.specs.Told.{may_report}
-use Rattle.run.proofs.ReportLaws.{may_is, outcome_number, number_lt, number_small, number_is}
+use Rattle.run.proofs.ReportLaws.{may_is, outcome_number, number_lt, number_is}
 
 -- ---- the subtrees of the outcomes before it
 
 -- of subtrees that are sound together, those before number k, and number k behind them
-pub record Apart (sub : ℕ → List ℕ → Checked) (bs : List ℕ) (k : ℕ) : Type 0 where
+pub record Apart (sub : ℕ → List ℕ → Option SoundSubtree) (bs : List ℕ) (k : ℕ) : Type 0 where
   pub nodes : ℕ
   pub kept : Bool
-  pub before : with_subtrees sub bs k ≡ checked.Sound nodes kept
+  pub before : with_subtrees sub bs k ≡ subtree_of nodes kept
   pub own_nodes : ℕ
   pub own_kept : Bool
-  pub own : sub k (from_node bs nodes) ≡ checked.Sound own_nodes own_kept
+  pub own : sub k (from_node bs nodes) ≡ subtree_of own_nodes own_kept
 
 pub apart :
-    (sub : ℕ → List ℕ → Checked) (bs : List ℕ) (j n : ℕ) (b : Bool) → with_subtrees sub bs j ≡ checked.Sound n b → (k : ℕ) → k < j →
+    (sub : ℕ → List ℕ → Option SoundSubtree) (bs : List ℕ) (j n : ℕ) (b : Bool) → with_subtrees sub bs j ≡ subtree_of n b → (k : ℕ) → k < j →
     Apart sub bs k
 unfolding with_subtrees
 apart sub bs zero n b e k lt = absurd (not-suc-le-zero lt)
@@ -60,13 +60,12 @@ apart sub bs (suc j) n b e k lt =
     subst (Apart sub bs) q
     (record { nodes = r.n₁; kept = r.b₁; before = r.first_is; own_nodes = r.n₂; own_kept = r.b₂; own = r.next_is }))
 
--- what holds while outcomes are passed: k of them, with n nodes in all, the front one included; this is the next outcome
-pub record Passed (p : Plan) (at : Position) (bs : List ℕ) (v : Node) (o k n outcome : ℕ) : Type 0 where
+-- what holds while outcomes are passed: k of them, with n nodes in all, the front one included
+pub record Passed (p : Plan) (at : Position) (bs : List ℕ) (v : Node) (o k n : ℕ) : Type 0 where
   pub kept : Bool
-  pub so_far : with_subtrees (below p at v) bs k ≡ checked.Sound n kept
+  pub so_far : with_subtrees (below p at v) bs k ≡ subtree_of n kept
   pub fits : 3 * n ≤ length bs
   pub within : k ≤ rank p.letters (hears (network_of p) (move_of v)) o
-  pub is : outcome ≡ submask 8 (bit (heard_by p v.points)) k
 
 -- a position whose legal move stands at the front of the bytes, and a report that may be made there
 pub record Here (p : Plan) (at : Position) (bs : List ℕ) (v : Node) (o : ℕ) : Type 0 where
@@ -115,58 +114,64 @@ module _ (p : Plan) (at : Position) (bs : List ℕ) (v : Node) (o : ℕ) (here :
       (move_of x) k))) bs (rank p.letters (hears (network_of p) (move_of x)) o))
       ≡ nodes_found (with_subtrees (below p at v) bs number))
       here.front
-      (ap (λ (sub : ℕ → List ℕ → Checked). nodes_found (with_subtrees sub bs number))
+      (ap (λ (sub : ℕ → List ℕ → Option SoundSubtree). nodes_found (with_subtrees sub bs number))
       (λ i k. subtree_at p (sym (next_is p here.wf at here.ok v is_legal_lem k here.long) i)))
 
-  pub pass_none : (outcome : ℕ) → outcome ≡ submask 8 (bit (heard_by p v.points)) 0 → Passed p at bs v o 0 1 outcome
-  pass_none outcome e =
+  pub pass_none : Passed p at bs v o 0 1
+  pass_none =
       let whole = here.whole in
-      record { kept = true; so_far = subtrees_none (below p at v) bs; fits = omega arith; within = omega arith; is = e }
+      record { kept = true; so_far = subtrees_none (below p at v) bs; fits = omega arith; within = omega arith }
 
-  module _ (k n outcome : ℕ) (r : Passed p at bs v o k n outcome) where
-    -- another outcome: its number is less
-    pub pass_less : ¬ (outcome ≡ o) → k < number
-    pass_less ne =
-        let w = r.within in
-        by_cases (dec_lt k number)
-        (λ lt. lt)
-        (λ ge. let e : k ≡ number = omega arith in
-        absurd (ne (r.is ∙ ap (submask 8 (bit (heard_by p v.points))) e ∙ numbered_own)))
-
-    pub pass_small : ¬ (outcome ≡ o) → k < 64
-    pass_small ne = let small = number_small p here.wf.head.letters (move_of v) o in let lt = pass_less ne in omega arith
-
-    -- its subtree lies within the bytes
-    pub pass_fits : (m : ℕ) (b : Bool) → below p at v k (from_node bs n) ≡ checked.Sound m b → 3 * (n + m) ≤ length bs
-    pass_fits m b e =
-        let f = node_here.fit k (from_node bs n) m b e in
-        let d = length-drop (3 * n) bs in
-        let w = r.fits in
-        omega arith
-
-    pub pass_more :
-        (m : ℕ) (b : Bool) (outcome' : ℕ) → ¬ (outcome ≡ o) → below p at v k (from_node bs n) ≡ checked.Sound m b →
-        outcome' ≡ submask 8 (bit (heard_by p v.points)) (k + 1) → Passed p at bs v o (k + 1) (n + m) outcome'
-    pass_more m b outcome' ne e q =
-        let lt = pass_less ne in
-        record {
-          kept = r.kept && b;
-          so_far = subtrees_on (below p at v) bs k n r.kept r.so_far m b e;
-          fits = pass_fits m b e;
-          within = omega arith;
-          is = q;
-        }
-
-    pub pass_stop : ¬ (outcome ≡ o) → below p at v k (from_node bs n) ≡ checked.Unsound → 0 ≡ nodes_before p (state_of p at) bs o
-    pass_stop ne e =
-        sym (before_is ∙ ap nodes_found (subtrees_stop (below p at v) bs k n r.kept r.so_far e number (pass_less ne)))
-
-    pub pass_end : outcome ≡ o → n ≡ nodes_before p (state_of p at) bs o
-    pass_end e =
+  module _ (k n : ℕ) (r : Passed p at bs v o k n) where
+    -- its own outcome comes before the numbers end
+    pub pass_ends : {C : Type 0} → 2 ^ count 8 (bit (heard_by p v.points)) ≤ k → C
+    pass_ends past =
         let w = r.within in
         let lt = number_lt p here.wf.head.letters (move_of v) o in
-        let is-k : number ≡ k
-        = ap (rank p.letters (hears (network_of p) (move_of v)))
-        (sym e ∙ r.is ∙ numbered_is_outcome p here.wf.head.letters (move_of v) k)
-        ∙ rank_submask p.letters (hears (network_of p) (move_of v)) k (omega arith) in
-        sym (before_is ∙ rw (is-k, r.so_far))
+        let all = submasks_are_outcomes p here.wf.head.letters (move_of v) in
+        absurd (omega (arith, past, w, lt, all))
+
+    -- the outcome whose number is k
+    module _ (outcome : ℕ) (is : outcome ≡ submask 8 (bit (heard_by p v.points)) k) where
+      -- another outcome: its number is less
+      pub pass_less : ¬ (outcome ≡ o) → k < number
+      pass_less ne =
+          let w = r.within in
+          by_cases (dec_lt k number)
+          (λ lt. lt)
+          (λ ge. let e : k ≡ number = omega arith in
+          absurd (ne (is ∙ ap (submask 8 (bit (heard_by p v.points))) e ∙ numbered_own)))
+
+      -- its subtree lies within the bytes
+      pub pass_fits : (m : ℕ) (b : Bool) → below p at v k (from_node bs n) ≡ subtree_of m b → 3 * (n + m) ≤ length bs
+      pass_fits m b e =
+          let f = node_here.fit k (from_node bs n) m b e in
+          let d = length-drop (3 * n) bs in
+          let w = r.fits in
+          omega arith
+
+      pub pass_more :
+          (m : ℕ) (b : Bool) → ¬ (outcome ≡ o) → below p at v k (from_node bs n) ≡ subtree_of m b → Passed p at bs v o (k + 1) (n + m)
+      pass_more m b ne e =
+          let lt = pass_less ne in
+          record {
+            kept = r.kept && b;
+            so_far = subtrees_on (below p at v) bs k n r.kept r.so_far m b e;
+            fits = pass_fits m b e;
+            within = omega arith;
+          }
+
+      pub pass_stop : ¬ (outcome ≡ o) → below p at v k (from_node bs n) ≡ None → 0 ≡ nodes_before p (state_of p at) bs o
+      pass_stop ne e =
+          sym (before_is ∙ ap nodes_found (subtrees_stop (below p at v) bs k n r.kept r.so_far e number (pass_less ne)))
+
+      -- the one reported
+      pub pass_end : outcome ≡ o → n ≡ nodes_before p (state_of p at) bs o
+      pass_end e =
+          let w = r.within in
+          let lt = number_lt p here.wf.head.letters (move_of v) o in
+          let is-k : number ≡ k
+          = ap (rank p.letters (hears (network_of p) (move_of v)))
+          (sym e ∙ is ∙ numbered_is_outcome p here.wf.head.letters (move_of v) k)
+          ∙ rank_submask p.letters (hears (network_of p) (move_of v)) k (omega arith) in
+          sym (before_is ∙ rw (is-k, r.so_far))

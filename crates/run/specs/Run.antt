@@ -1,6 +1,6 @@
 -- Definitions: what a crew is told at a history, read from a tree's bytes, and what showing and reporting answer. Computed: pinned by
 -- `told_is` of run/proofs/RunTheorems.antt.
-use Rattle.std.specs.Prelude.{cond, List, [], ◌∷◌, ℕ, eqb}
+use Rattle.std.specs.Prelude.{cond, List, [], ◌∷◌, ℕ, eqb, Option, Some, None}
 use Rattle.network.specs.Below.{rank}
 use Rattle.network.specs.Game.{State, start, hears, outcome_at, after}
 use Rattle.plan.specs.declared.Plan.{Plan}
@@ -11,8 +11,7 @@ use Rattle.plan.specs.Faults.{unless, first}
 use Rattle.plan.specs.Plan.{network_of}
 use Rattle.tree.specs.Parts.{node_at}
 use Rattle.tree.specs.Parts.{from_node, move_of}
-use Rattle.checker.specs.declared.Checked.{Checked}
-use Rattle.checker.specs.declared.Checked.TheVariants as checked
+use Rattle.checker.specs.declared.SoundSubtree.{SoundSubtree}
 use Rattle.checker.specs.Checker.{with_subtrees, subtree_at, check_fault}
 use Rattle.run.specs.declared.History.{History}
 use Rattle.run.specs.History.{history_fine, reports_in, longer}
@@ -25,9 +24,9 @@ history_fault h = unless (history_fine h) refusal.Mask
 -- ---- What is told, by a tree's bytes.
 
 -- the nodes that were found
-abbrev pub nodes_found : Checked → ℕ
-nodes_found checked.Unsound = 0
-nodes_found (checked.Sound n kept) = n
+abbrev pub nodes_found : Option SoundSubtree → ℕ
+nodes_found None = 0
+nodes_found (Some t) = t.nodes
 
 -- how many nodes stand before the child that an outcome leads to: the node at the front, and the subtrees of the outcomes before it
 unfoldable pub nodes_before : Plan → State → List ℕ → ℕ → ℕ

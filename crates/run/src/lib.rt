@@ -9,24 +9,38 @@ ghost use Rattle.plan.specs.Refusal.{refusal_number};
 ghost use Rattle.run.specs.Run.{show_answer, report_answer};
 ghost use Rattle.run.specs.Told.{shown_told, reported_answer};
 
-use plan::{Judged, Plan, Refusal, letters};
+use plan::{Plan, Refusal, letters};
+use tree::Node;
 
 // An instruction (document 01's term), what a crew does next: these points in this slot, with these choices.
-#[derive(Clone, Copy)]
+#[derive(Clone, Copy, Default)]
 pub struct Instruction {
     pub slot: u8,
     pub points: u8,
     pub choices: u8,
 }
 
-// The reports so far: a count 0 to 8 and eight outcome masks, zeros past the count. A record can hold anything else; it is refused.
-#[derive(Clone, Copy)]
+// A node has the same fields. The two stay two types: demand 3 speaks of what is told (`Shown`, `instructed`), trees of what stands in memory.
+impl From<Node> for Instruction {
+    ghost from_gives = { λ v i. i ≡ record { slot = v.slot; points = v.points; choices = v.choices } };
+
+    fn from(v: Node) -> Instruction {
+        Instruction {
+            slot: v.slot,
+            points: v.points,
+            choices: v.choices,
+        }
+    }
+}
+
+// The reports so far, in document 01's form: a count 0 to 8, eight masks, zeros past the count. What else a record can hold is refused.
+#[derive(Clone, Copy, Default)]
 pub struct History {
     pub count: u8,
     pub masks: [u8; 8],
 }
 
-// What showing (document 01's term) answers: an instruction, done, or a refusal.
+// What showing (document 01's term) answers: an instruction, done, or a refusal. Document 01 asks for an enum of this form.
 #[derive(Clone, Copy)]
 pub enum Shown {
     Instruct(Instruction),
@@ -34,10 +48,10 @@ pub enum Shown {
     Refused(Refusal),
 }
 
-// What reporting answers: fine, with the longer history, or a refusal, with the history that was given.
+// What reporting answers: fine and the longer history, or a refusal and the history given (document 01; demand 3, `held_after`, reads it).
 #[derive(Clone, Copy)]
 pub struct Reported {
-    pub answer: Judged,
+    pub answer: Result<(), Refusal>,
     pub history: History,
 }
 
@@ -46,40 +60,27 @@ impl History {
     pub fn empty() -> History
         ensures { result ≡ empty_history }
     {
-        History {
-            count: 0,
-            masks: [0; 8],
-        }
+        History::default()
     }
 
     // Whether the count is at most 8 and every mask past it is zero.
     fn is_fine(self) -> bool
         ensures { result ≡ history_fine self }
     {
-        let masks = self.masks;
-        let mut i: u8 = self.count;
-        if 8 < i {
-            return false;
-        }
-        while i < 8 {
-            if masks[i as usize] != 0 {
-                return false;
-            }
-            i += 1;
-        }
-        true
+        self.count <= 8
+            && self.masks[self.count as usize..]
+                .iter()
+                .all(|mask| *mask == 0)
     }
 
     // The history with one mask more.
-    fn with_mask(self, mask: u8) -> History
+    fn with_mask(mut self, mask: u8) -> History
         requires { self.count < 8 }
         ensures { result ≡ longer self mask }
     {
-        let at = self.count as usize;
-        let mut next = self;
-        next.masks[at] = mask;
-        next.count = self.count + 1;
-        next
+        self.masks[self.count as usize] = mask;
+        self.count += 1;
+        self
     }
 
     // A report that is refused: the history is handed back as it was given.
@@ -87,7 +88,7 @@ impl History {
         ensures { reported_answer result ≡ record { fault = refusal_number r; value = self } }
     {
         Reported {
-            answer: Judged::Refused(r),
+            answer: Err(r),
             history: self,
         }
     }
@@ -97,8 +98,7 @@ impl History {
     pub fn report(self, plan: Plan, nodes: &[u8], mask: u8) -> Reported
         ensures { reported_answer result ≡ report_answer plan nodes.now self mask }
     {
-        let shown = show(plan, nodes, self);
-        match shown {
+        match show(plan, nodes, self) {
             Shown::Refused(r) => self.refused(r),
             Shown::Done => self.refused(Refusal::AfterDone),
             Shown::Instruct(v) => {
@@ -106,7 +106,7 @@ impl History {
                     return self.refused(Refusal::Mask);
                 }
                 Reported {
-                    answer: Judged::Fine,
+                    answer: Ok(()),
                     history: self.with_mask(mask),
                 }
             }
@@ -119,8 +119,7 @@ impl History {
 pub fn show(plan: Plan, nodes: &[u8], history: History) -> Shown
     ensures { shown_told result ≡ show_answer plan nodes.now history }
 {
-    let checked = checker::check_tree(plan, nodes);
-    if let Judged::Refused(r) = checked {
+    if let Err(r) = checker::check_tree(plan, nodes) {
         return Shown::Refused(r);
     }
     if !history.is_fine() {

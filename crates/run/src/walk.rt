@@ -11,8 +11,7 @@ ghost use Rattle.run.specs.Run.{nodes_before, told_here, told_from};
 ghost use Rattle.run.specs.History.{reports_in};
 ghost use Rattle.run.specs.Told.{may_report, shown_told};
 
-use crate::{History, Instruction, Shown};
-use checker::Checked;
+use crate::{History, Shown};
 use game::Position;
 use plan::{Plan, Refusal, letters};
 
@@ -28,19 +27,18 @@ fn nodes_before(plan: Plan, nodes: &[u8], at: Position, mask: u8) -> usize
     let v = tree::node_at(nodes, 0);
     let heard = letters::heard(plan, v.points);
     let mut count: usize = 1;
-    let mut k: u16 = 0;
-    let mut outcome = masks::numbered(heard, k);
-    while outcome != mask {
+    for k in 0..masks::submasks(heard) {
+        let outcome = masks::numbered(heard, k);
+        if outcome == mask {
+            return count;
+        }
         let next = game::after(at, v, outcome);
-        let below = checker::subtree(plan, &nodes[3 * count..], next);
-        let Checked::Sound(m, _) = below else {
+        let Some(below) = checker::subtree(plan, &nodes[3 * count..], next) else {
             return 0;
         };
-        count += m;
-        k += 1;
-        outcome = masks::numbered(heard, k);
+        count += below.nodes;
     }
-    count
+    count // not reached: the mask is one of the outcomes
 }
 
 // What is told where the walk has ended: done where no point is left, else the node at the front.
@@ -48,12 +46,7 @@ fn told_here(nodes: &[u8], at: Position) -> Shown
     ensures { shown_told result ≡ told_here at.left nodes.now }
 {
     if at.left != 0 {
-        let v = tree::node_at(nodes, 0);
-        return Shown::Instruct(Instruction {
-            slot: v.slot,
-            points: v.points,
-            choices: v.choices,
-        });
+        return Shown::Instruct(tree::node_at(nodes, 0).into());
     }
     Shown::Done
 }
@@ -64,25 +57,19 @@ pub fn told(plan: Plan, nodes: &[u8], history: History) -> Shown
     requires count { history.count ≤ 8 }
     ensures { shown_told result ≡ told_from plan (start (network_of plan)) nodes.now (reports_in history) }
 {
-    let masks = history.masks;
-    let count = history.count;
     let mut rest = nodes;
     let mut at = game::start(plan);
-    let mut i: u8 = 0;
-    while i < count {
+    for mask in &history.masks[..history.count as usize] {
         if at.left == 0 {
             return Shown::Refused(Refusal::AfterDone);
         }
-        let mask = masks[i as usize];
         let v = tree::node_at(rest, 0);
-        if !masks::subset(mask, letters::heard(plan, v.points)) {
+        if !masks::subset(*mask, letters::heard(plan, v.points)) {
             return Shown::Refused(Refusal::Mask);
         }
-        let before = nodes_before(plan, rest, at, mask);
+        let before = nodes_before(plan, rest, at, *mask);
         rest = &rest[3 * before..];
-        let next = game::after(at, v, mask);
-        at = next;
-        i += 1;
+        at = game::after(at, v, *mask);
     }
     told_here(rest, at)
 }

@@ -5,17 +5,15 @@ use Prim.Native.Nat.{ℕ, ◌+◌, ◌*◌, ◌≤◌}
 use native.Mathlib.Omega.{arith}
 use borrow.Author.Rules.{rules}
 use lib.ListN.{length, drop, length-drop}
+use Rattle.std.specs.Prelude.{None}
 use Rattle.network.proofs.Booleans.{denied, granted}
-use Rattle.plan.proofs.SliceLaws.{rest, rest_is}
-use Rattle.game.specs.declared.Position.{Position}
 use Rattle.game.specs.Position.{state_of}
 use Rattle.game.proofs.NextLaws.{next}
-use Rattle.checker.specs.declared.Checked.TheVariants as checked
-use Rattle.checker.specs.Checker.{with_subtrees, subtree_at}
-use Rattle.checker.proofs.CodeLaws.{below, AtNode, at_node, path_ends, too_short, not_legal, subtrees_none, subtrees_on, subtrees_stop}
+use Rattle.checker.specs.Checker.{subtree_of, with_subtrees, subtree_at}
+use Rattle.checker.proofs.CodeLaws.{below, child_is, AtNode, at_node, path_ends, too_short, not_legal, subtrees_none, subtrees_on, subtrees_stop}
 use Rattle.checker.proofs.SoFarLaws.{kept_so_far_lem}
 use Rattle.checker.proofs.+subtree.Goals as goal
-use Rattle.checker.proofs.+subtree.Goals.{After-after-next, After-submasks-outcomes, After-subtree-below, Else-not-legal, In-Sound, Start}
+use Rattle.checker.proofs.+subtree.Goals.{After-after-next, After-submasks-outcomes, After-subtree, Else-not-legal, In_ok-below, Start}
 
 -- ---- behind a legal move
 
@@ -43,34 +41,30 @@ is-next : (t : ℕ) (c : After-after-next t) →
     c.after-next.result ≡ next a.plan a.at v c.loop-k.k
 is-next t c = c.after-next.ensures ∙ rw (c.numbered.ensures, c.heard-heard.ensures) refl
 
-is-child : (t : ℕ) (c : After-subtree-below t) (is-next_here : let a = c.args in
+is-child : (t : ℕ) (c : After-subtree t) (is-next_here : let a = c.args in
     let v = c.node_at-v.result in
     c.after-next.result ≡ next a.plan a.at v c.loop-k.k) →
     let a = c.args in
     let l = c.loop-k in
     let v = c.node_at-v.result in
-    below a.plan a.at v l.k (drop (3 * l.count) a.nodes.now) ≡ c.subtree-below.result
+    below a.plan a.at v l.k (drop (3 * l.count) a.nodes.now) ≡ c.subtree.result
 is-child t c is-next_here =
     let a = c.args in
-    let l = c.loop-k in
-    let v = c.node_at-v.result in
-    sym (c.subtree-below.ensures
-    ∙ ap (λ (u : Position). subtree_at a.plan (state_of a.plan u) (rest (3 * l.count) a.nodes.now)) (is-next_here)
-    ∙ ap (below a.plan a.at v l.k) (rest_is (3 * l.count) a.nodes.now))
+    child_is a.plan a.at c.node_at-v.result c.loop-k.k c.loop-k.count a.nodes.now c.after-next.result _ is-next_here c.subtree.ensures
 
 -- its nodes lie within the bytes
-child_fits : (t : ℕ) (c : In-Sound t) (here_here : let a = c.args in
+child_fits : (t : ℕ) (c : In_ok-below t) (here_here : let a = c.args in
     AtNode a.plan a.at a.nodes.now c.node_at-v.result) (is-child_here : let a = c.args in
     let l = c.loop-k in
     let v = c.node_at-v.result in
-    below a.plan a.at v l.k (drop (3 * l.count) a.nodes.now) ≡ c.subtree-below.result) →
+    below a.plan a.at v l.k (drop (3 * l.count) a.nodes.now) ≡ c.subtree.result) →
     let a = c.args in
     let l = c.loop-k in
-    3 * (l.count + c.in-Sound.m) ≤ length a.nodes.now
+    3 * (l.count + c.in_ok-below.below.nodes) ≤ length a.nodes.now
 child_fits t c here_here is-child_here =
     let l = c.loop-k in
     let a = c.args in
-    let e = is-child_here ∙ c.in-Sound.is in
+    let e = is-child_here ∙ c.in_ok-below.was in
     let f = (here_here).fit l.k _ _ _ e in
     let d = length-drop (3 * l.count) a.nodes.now in
     omega arith
@@ -80,7 +74,7 @@ child_fits t c here_here is-child_here =
 pub returns-then-at-eq0 : goal.returns-then-at-eq0
 returns-then-at-eq0 t c =
     let a = c.args in
-    ap (checked.Sound 0) c.keeps_so_far-kept_so_far.ensures
+    ap (subtree_of 0) c.keeps_so_far-kept_so_far.ensures
     ∙ path_ends a.plan c.requires.0 a.at c.requires.1 a.nodes.now c.if-at-eq0.true
 
 pub returns-then-nodes-lt3 : goal.returns-then-nodes-lt3
@@ -97,32 +91,31 @@ returns-then-not-legal t c =
 pub loop-k-init : goal.loop-k-init
 loop-k-init t c = (omega arith, omega arith, subtrees_none _ _)
 
-pub overflow_mul-count : goal.overflow_mul-count
-overflow_mul-count t c = omega (arith, c.well_formed)
-
-pub subtree-below-requires : goal.subtree-below-requires
-subtree-below-requires t c =
-    let n = here t (goal.at.subtree-below-requires t c).Else-not-legal in
-    let e = is-next t (goal.at.subtree-below-requires t c).After-after-next in
+pub subtree-requires : goal.subtree-requires
+subtree-requires t c =
+    let n = here t (goal.at.subtree-requires t c).Else-not-legal in
+    let e = is-next t (goal.at.subtree-requires t c).After-after-next in
     let k = c.loop-k.k in
     (rw (e, ← c.decreases) (n.fewer k), (c.requires.0, rw e (n.proper k)))
 
-pub returns-in_default : goal.returns-in_default
-returns-in_default t c =
+pub returns-in_err-below : goal.returns-in_err-below
+returns-in_err-below t c =
     let i = c.loop-k.invariant in
-    sym (read t (goal.at.returns-in_default t c).After-submasks-outcomes (here t (goal.at.returns-in_default t c).Else-not-legal)
-    ∙ subtrees_stop _ _ _ _ _ i.2 (is-child t (goal.at.returns-in_default t c).After-subtree-below (is-next t (goal.at.returns-in_default t c).After-after-next) ∙ c.in_default.is) _ (omega arith))
+    let none : c.from_residual.result ≡ None = grind arith in
+    none
+    ∙ sym (read t (goal.at.returns-in_err-below t c).After-submasks-outcomes (here t (goal.at.returns-in_err-below t c).Else-not-legal)
+    ∙ subtrees_stop _ _ _ _ _ i.2 (is-child t (goal.at.returns-in_err-below t c).After-subtree (is-next t (goal.at.returns-in_err-below t c).After-after-next) ∙ c.in_err-below.was) _ (omega arith))
 
 pub overflow_add-count : goal.overflow_add-count
 overflow_add-count t c =
-    omega (arith, child_fits t c (here t (goal.at.overflow_add-count t c).Else-not-legal) (is-child t (goal.at.overflow_add-count t c).After-subtree-below (is-next t (goal.at.overflow_add-count t c).After-after-next)))
+    omega (arith, child_fits t (goal.at.overflow_add-count t c).In_ok-below (here t (goal.at.overflow_add-count t c).Else-not-legal) (is-child t (goal.at.overflow_add-count t c).After-subtree (is-next t (goal.at.overflow_add-count t c).After-after-next)))
 
 pub loop-k-preserved : goal.loop-k-preserved
 loop-k-preserved t c = (
   omega arith,
-  child_fits t c (here t (goal.at.loop-k-preserved t c).Else-not-legal) (is-child t (goal.at.loop-k-preserved t c).After-subtree-below (is-next t (goal.at.loop-k-preserved t c).After-after-next)),
+  child_fits t (goal.at.loop-k-preserved t c).In_ok-below (here t (goal.at.loop-k-preserved t c).Else-not-legal) (is-child t (goal.at.loop-k-preserved t c).After-subtree (is-next t (goal.at.loop-k-preserved t c).After-after-next)),
   subtrees_on _ _ _ _ _ c.loop-k.invariant.2 _ _
-      (is-child t (goal.at.loop-k-preserved t c).After-subtree-below (is-next t (goal.at.loop-k-preserved t c).After-after-next) ∙ c.in-Sound.is),
+      (is-child t (goal.at.loop-k-preserved t c).After-subtree (is-next t (goal.at.loop-k-preserved t c).After-after-next) ∙ c.in_ok-below.was),
 )
 
 pub returns : goal.returns
@@ -130,7 +123,7 @@ returns t c =
     let l = c.loop-k in
     let a = c.args in
     let e : c.submasks-outcomes.result ≡ l.k = omega arith in
-    let is : subtree_at a.plan (state_of a.plan a.at) a.nodes.now ≡ checked.Sound l.count l.kept
+    let is : subtree_at a.plan (state_of a.plan a.at) a.nodes.now ≡ subtree_of l.count l.kept
     = read t (goal.at.returns t c).After-submasks-outcomes (here t (goal.at.returns t c).Else-not-legal) ∙ rw e l.invariant.2 in
     let same = kept_so_far_lem a.plan c.requires.0 a.at c.requires.1 a.nodes.now l.count l.kept is in
-    sym (is ∙ ap (checked.Sound l.count) (sym (rw c.keeps_so_far-kept_so_far.ensures same)))
+    sym (is ∙ ap (subtree_of l.count) (sym (rw c.keeps_so_far-kept_so_far.ensures same)))

@@ -11,11 +11,11 @@ use Rattle.run.proofs.show.Goals.{In_default}
 
 -- the checker found no fault
 fine : (c : In_default) → let a = c.args in 0 ≡ check_fault a.plan a.nodes.now
-fine c = sym (ap judged_number c.in_default.is) ∙ c.check_tree-checked.ensures
+fine c = sym (ap judged_number c.in_default.is) ∙ c.check_tree.ensures
 
-pub returns-in-Refused : goal.returns-in-Refused
-returns-in-Refused c =
-    tree_refused _ _ _ c.in-Refused.r (sym (ap judged_number c.in-Refused.is) ∙ c.check_tree-checked.ensures)
+pub returns-in-Err : goal.returns-in-Err
+returns-in-Err c =
+    tree_refused _ _ _ c.in-Err.r (sym (ap judged_number c.in-Err.is) ∙ c.check_tree.ensures)
 
 pub returns-then-not-is_fine : goal.returns-then-not-is_fine
 returns-then-not-is_fine c = history_refused _ _ _ (fine (goal.at.returns-then-not-is_fine c).In_default) (denied c.is_fine.ensures (ap not c.if-not-is_fine.true))

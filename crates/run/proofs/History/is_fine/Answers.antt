@@ -1,31 +1,21 @@
--- By the laws of histories: the masks passed so far are zero. Only the checker need believe this file.
-use mathlib.Core.Path.{◌≡◌, sym}
-use mathlib.Core.Logic.{by_cases}
+-- By the laws of histories: all masks past the count are zero. Only the checker need believe this file.
+use mathlib.Core.Path.{◌≡◌, ◌∙◌}
+use lib.ListN.{length, drop}
 use native.Mathlib.Omega.{arith}
-use native.Mathlib.Decide.{dec_lt}
-use Rattle.run.proofs.HistoryLaws.{fine_made, count_faulty, mask_faulty}
+use Rattle.std.proofs.Common.{rules, tests}
+use Rattle.std.proofs.lemmas.Iterator.{cases_from_all, YieldsList-from_slice}
+use Rattle.network.proofs.Booleans.{leb_no}
+use Rattle.plan.proofs.SliceLaws.{rest_is}
+use Rattle.run.proofs.HistoryLaws.{count_faulty, masks_said}
 use Rattle.run.proofs.History.is_fine.Goals as goal
 
-pub returns-then-i-gt8 : goal.returns-then-i-gt8
-returns-then-i-gt8 c = count_faulty _ c.if-i-gt8.true
+pub returns-then-self-le8 : goal.returns-then-self-le8
+returns-then-self-le8 c =
+    let h = c.args.self in
+    let long : length h.masks ≡ 8 = search rules in
+    masks_said h c.if-self-le8.true long _ (cases_from_all _ _ _ (λ x. x ≡ 0) (λ x. ¬ (x ≡ 0)) c.all.ensures.ran
+    (YieldsList-from_slice (drop h.count h.masks) (c.iter.ensures.rest ∙ rest_is h.count h.masks))
+    (λ x q k. search (rules, tests)) (λ x q k. search (rules, tests)))
 
-pub loop-i-init : goal.loop-i-init
-loop-i-init c = (omega arith, omega arith, λ j ge lt. absurd (omega arith))
-
-pub returns-then-masks-i-ne0 : goal.returns-then-masks-i-ne0
-returns-then-masks-i-ne0 c = let i = c.loop-i.invariant in mask_faulty _ _ i.0 (omega arith) c.if-masks-i-ne0.true
-
-pub loop-i-preserved : goal.loop-i-preserved
-loop-i-preserved c =
-    let l = c.loop-i in (
-      omega arith,
-      omega arith,
-      λ j ge lt. by_cases (dec_lt j l.i)
-          (l.invariant.2 j ge)
-          (λ le. let e : j ≡ l.i = omega arith in rw e c.if-masks-i-ne0.false),
-    )
-
-pub returns : goal.returns
-returns c =
-    let l = c.loop-i in
-    sym (fine_made _ (omega arith) (λ j ge lt. l.invariant.2 j ge (omega arith)))
+pub returns-else-self-le8 : goal.returns-else-self-le8
+returns-else-self-le8 c = leb_no c.args.self.count 8 (λ le. let gt = c.if-self-le8.false in absurd (omega arith)) ∙ count_faulty _ c.if-self-le8.false

@@ -18,7 +18,7 @@ long c = search rules
 told : (c : In-Instruct) →
     let a = c.args in
     instruct (instructed c.in-Instruct.v) ≡ show_answer a.plan a.nodes.now a.self
-told c = sym (ap shown_told c.in-Instruct.is) ∙ c.show-shown.ensures
+told c = sym (ap shown_told c.in-Instruct.is) ∙ c.show.ensures
 
 may-be : (c : After-subset) →
     let a = c.args in
@@ -35,11 +35,11 @@ with_mask-requires c = room_for_one _ _ _ _ (long (goal.at.with_mask-requires c)
 
 pub returns-in-Refused : goal.returns-in-Refused
 returns-in-Refused c =
-    c.refused.ensures ∙ report_refused _ _ _ _ c.in-Refused.r (sym (ap shown_told c.in-Refused.is) ∙ c.show-shown.ensures)
+    c.refused.ensures ∙ report_refused _ _ _ _ c.in-Refused.r (sym (ap shown_told c.in-Refused.is) ∙ c.show.ensures)
 
 pub returns-in-Done : goal.returns-in-Done
 returns-in-Done c =
-    c.refused-in-Done.ensures ∙ report_after_done _ _ _ _ (sym (ap shown_told c.in-Done.is) ∙ c.show-shown.ensures)
+    c.refused-in-Done.ensures ∙ report_after_done _ _ _ _ (sym (ap shown_told c.in-Done.is) ∙ c.show.ensures)
 
 pub returns-else-not-subset : goal.returns-else-not-subset
 returns-else-not-subset c =

@@ -7,21 +7,18 @@ use borrow.Author.Rules.{rules}
 use lib.ListN.{length}
 use Rattle.network.specs.Mask.{bit, submask}
 use Rattle.plan.specs.Letters.{heard_by}
-use Rattle.plan.proofs.SliceLaws.{rest, rest_is}
 use Rattle.tree.specs.declared.Node.{Node}
 use Rattle.tree.specs.Parts.{from_node, move_of}
-use Rattle.game.specs.declared.Position.{Position}
 use Rattle.game.specs.Carried.{position_after}
 use Rattle.game.specs.Position.{state_of, is_legal}
 use Rattle.game.proofs.NextLaws.{next}
-use Rattle.checker.specs.declared.Checked.TheVariants as checked
-use Rattle.checker.specs.Checker.{subtree_at}
-use Rattle.checker.proofs.CodeLaws.{below}
+use Rattle.checker.specs.Checker.{subtree_of}
+use Rattle.checker.proofs.CodeLaws.{below, child_is}
 use Rattle.run.specs.Told.{may_report}
-use Rattle.run.proofs.WalkLaws.{Here, node_here, pass_none, pass_less, pass_small, pass_fits}
+use Rattle.run.proofs.WalkLaws.{Here, node_here, pass_none, pass_ends, pass_fits}
 use Rattle.run.proofs.WalkLaws.{pass_more, pass_stop, pass_end}
 use Rattle.run.proofs.walk.nodes_before.Goals as goal
-use Rattle.run.proofs.walk.nodes_before.Goals.{After-after-next, After-heard-heard, After-node_at-v, After-subtree-below, In-Sound, Start}
+use Rattle.run.proofs.walk.nodes_before.Goals.{After-after-next, After-node_at-v, After-numbered-outcome, After-subtree, In-Some, Start}
 
 long : (c : Start) → length c.args.at.slots ≡ 8
 long c = search rules
@@ -43,86 +40,75 @@ here c long_here =
       may = subst (λ (x : Node). may_report a.plan (move_of x) a.mask ≡ true) (sym front) c.requires.reported;
     }
 
--- an outcome by its number, as the code computes it
-numbered_is : (c : After-heard-heard) (k : ℕ) →
-    submask 8 (bit c.heard-heard.result) k ≡ submask 8 (bit (heard_by c.args.plan c.node_at-v.result.points)) k
-numbered_is c k = ap (λ (x : ℕ). submask 8 (bit x) k) c.heard-heard.ensures
+-- the outcome of number k, and the position after it, as the code computes them
+is-outcome : (c : After-numbered-outcome) →
+    c.numbered-outcome.result ≡ submask 8 (bit (heard_by c.args.plan c.node_at-v.result.points)) c.loop-k.k
+is-outcome c = c.numbered-outcome.ensures ∙ ap (λ (x : ℕ). submask 8 (bit x) c.loop-k.k) c.heard-heard.ensures
 
--- the position after the next outcome, and what is found there
-is-next : (c : After-after-next) →
+is-next : (c : After-after-next) (is-outcome_here : c.numbered-outcome.result ≡ submask 8 (bit (heard_by c.args.plan c.node_at-v.result.points)) c.loop-k.k) →
     let a = c.args in
-    c.after-next.result ≡ next a.plan a.at c.node_at-v.result c.loop-outcome.k
-is-next c = c.after-next.ensures ∙ ap (position_after c.args.at c.node_at-v.result) c.loop-outcome.invariant.is
+    c.after-next.result ≡ next a.plan a.at c.node_at-v.result c.loop-k.k
+is-next c is-outcome_here = c.after-next.ensures ∙ ap (position_after c.args.at c.node_at-v.result) is-outcome_here
 
-is-child : (c : After-subtree-below) (is-next_here : let a = c.args in
-    c.after-next.result ≡ next a.plan a.at c.node_at-v.result c.loop-outcome.k) →
+is-child : (c : After-subtree) (is-next_here : let a = c.args in
+    c.after-next.result ≡ next a.plan a.at c.node_at-v.result c.loop-k.k) →
     let a = c.args in
-    let l = c.loop-outcome in
-    below a.plan a.at c.node_at-v.result l.k (from_node a.nodes.now l.count) ≡ c.subtree-below.result
+    let l = c.loop-k in
+    below a.plan a.at c.node_at-v.result l.k (from_node a.nodes.now l.count) ≡ c.subtree.result
 is-child c is-next_here =
     let a = c.args in
-    let l = c.loop-outcome in
-    sym (c.subtree-below.ensures
-    ∙ ap (λ (u : Position). subtree_at a.plan (state_of a.plan u) (rest (3 * l.count) a.nodes.now)) (is-next_here)
-    ∙ ap (below a.plan a.at c.node_at-v.result l.k) (rest_is (3 * l.count) a.nodes.now))
+    child_is a.plan a.at c.node_at-v.result c.loop-k.k c.loop-k.count a.nodes.now c.after-next.result _ is-next_here c.subtree.ensures
 
 -- it is sound
-sound-child : (c : In-Sound) (is-child_here : let a = c.args in
-    let l = c.loop-outcome in
-    below a.plan a.at c.node_at-v.result l.k (from_node a.nodes.now l.count) ≡ c.subtree-below.result) →
+sound-child : (c : In-Some) (is-child_here : let a = c.args in
+    let l = c.loop-k in
+    below a.plan a.at c.node_at-v.result l.k (from_node a.nodes.now l.count) ≡ c.subtree.result) →
     let a = c.args in
-    let l = c.loop-outcome in
-    below a.plan a.at c.node_at-v.result l.k (from_node a.nodes.now l.count) ≡ checked.Sound c.in-Sound.m c.in-Sound.field-1
-sound-child c is-child_here = is-child_here ∙ c.in-Sound.is
+    let l = c.loop-k in
+    below a.plan a.at c.node_at-v.result l.k (from_node a.nodes.now l.count) ≡ subtree_of c.in-Some.below.nodes c.in-Some.below.kept
+sound-child c is-child_here = is-child_here ∙ c.in-Some.is
 
-child_fits : (c : In-Sound) (here_here : let a = c.args in
-    Here a.plan a.at a.nodes.now c.node_at-v.result a.mask) (is-child_here : let a = c.args in
-    let l = c.loop-outcome in
-    below a.plan a.at c.node_at-v.result l.k (from_node a.nodes.now l.count) ≡ c.subtree-below.result) →
-    3 * (c.loop-outcome.count + c.in-Sound.m) ≤ length c.args.nodes.now
-child_fits c here_here is-child_here = pass_fits _ _ _ _ _ (here_here) _ _ _ c.loop-outcome.invariant _ _ (sound-child c is-child_here)
+child_fits : (c : In-Some) (here_here : let a = c.args in
+    Here a.plan a.at a.nodes.now c.node_at-v.result a.mask) (is-outcome_here : c.numbered-outcome.result ≡ submask 8 (bit (heard_by c.args.plan c.node_at-v.result.points)) c.loop-k.k) (is-child_here : let a = c.args in
+    let l = c.loop-k in
+    below a.plan a.at c.node_at-v.result l.k (from_node a.nodes.now l.count) ≡ c.subtree.result) →
+    3 * (c.loop-k.count + c.in-Some.below.nodes) ≤ length c.args.nodes.now
+child_fits c here_here is-outcome_here is-child_here = pass_fits _ _ _ _ _ (here_here) _ _ c.loop-k.invariant _ is-outcome_here _ _ (sound-child c is-child_here)
 
 -- ---- the needs
 
-pub loop-outcome-init : goal.loop-outcome-init
-loop-outcome-init c = pass_none _ _ _ _ _ (here (goal.at.loop-outcome-init c).After-node_at-v (long (goal.at.loop-outcome-init c).Start)) _ (c.numbered-outcome.ensures ∙ numbered_is (goal.at.loop-outcome-init c).After-heard-heard 0)
+pub loop-k-init : goal.loop-k-init
+loop-k-init c = pass_none _ _ _ _ _ (here (goal.at.loop-k-init c).After-node_at-v (long (goal.at.loop-k-init c).Start))
 
-pub overflow_mul-count : goal.overflow_mul-count
-overflow_mul-count c = let fits = c.loop-outcome.invariant.fits in let small = c.well_formed in omega arith
+pub returns-then-outcome-mask : goal.returns-then-outcome-mask
+returns-then-outcome-mask c =
+    let at = goal.at.returns-then-outcome-mask c in
+    pass_end _ _ _ _ _ (here at.After-node_at-v (long at.Start)) _ _ c.loop-k.invariant _ (is-outcome at.After-numbered-outcome) c.if-outcome-mask.true
 
-pub slice_bounds-subtree-count : goal.slice_bounds-subtree-count
-slice_bounds-subtree-count c = c.loop-outcome.invariant.fits
-
-pub slice_bounds-subtree-start : goal.slice_bounds-subtree-start
-slice_bounds-subtree-start c = c.loop-outcome.invariant.fits
-
-pub subtree-below-requires : goal.subtree-below-requires
-subtree-below-requires c =
-    (c.requires.well_formed.0, rw (is-next (goal.at.subtree-below-requires c).After-after-next) ((node_here _ _ _ _ _ (here (goal.at.subtree-below-requires c).After-node_at-v (long (goal.at.subtree-below-requires c).Start))).proper _))
+pub subtree-requires : goal.subtree-requires
+subtree-requires c =
+    let at = goal.at.subtree-requires c in
+    (c.requires.well_formed.0, rw (is-next at.After-after-next (is-outcome at.After-numbered-outcome)) ((node_here _ _ _ _ _ (here at.After-node_at-v (long at.Start))).proper _))
 
 pub returns-in_default : goal.returns-in_default
 returns-in_default c =
-    let l = c.loop-outcome in
-    pass_stop _ _ _ _ _ (here (goal.at.returns-in_default c).After-node_at-v (long (goal.at.returns-in_default c).Start)) _ _ _ l.invariant c.loop-outcome-test.true (is-child (goal.at.returns-in_default c).After-subtree-below (is-next (goal.at.returns-in_default c).After-after-next) ∙ c.in_default.is)
+    let at = goal.at.returns-in_default c in
+    let is = is-outcome at.After-numbered-outcome in
+    pass_stop _ _ _ _ _ (here at.After-node_at-v (long at.Start)) _ _ c.loop-k.invariant _ is c.if-outcome-mask.false (is-child at.After-subtree (is-next at.After-after-next is) ∙ c.in_default.is)
 
 pub overflow_add-count : goal.overflow_add-count
-overflow_add-count c = omega (arith, child_fits c (here (goal.at.overflow_add-count c).After-node_at-v (long (goal.at.overflow_add-count c).Start)) (is-child (goal.at.overflow_add-count c).After-subtree-below (is-next (goal.at.overflow_add-count c).After-after-next)))
+overflow_add-count c =
+    let at = goal.at.overflow_add-count c in
+    let is = is-outcome at.After-numbered-outcome in
+    omega (arith, child_fits at.In-Some (here at.After-node_at-v (long at.Start)) is (is-child at.After-subtree (is-next at.After-after-next is)))
 
-pub overflow_add-k : goal.overflow_add-k
-overflow_add-k c =
-    let small = pass_small _ _ _ _ _ (here (goal.at.overflow_add-k c).After-node_at-v (long (goal.at.overflow_add-k c).Start)) _ _ _ c.loop-outcome.invariant c.loop-outcome-test.true in
-    omega arith
-
-pub loop-outcome-smaller : goal.loop-outcome-smaller
-loop-outcome-smaller c =
-    let less = pass_less _ _ _ _ _ (here (goal.at.loop-outcome-smaller c).After-node_at-v (long (goal.at.loop-outcome-smaller c).Start)) _ _ _ c.loop-outcome.invariant c.loop-outcome-test.true in
-    omega arith
-
-pub loop-outcome-preserved : goal.loop-outcome-preserved
-loop-outcome-preserved c =
-    let l = c.loop-outcome in
-    pass_more _ _ _ _ _ (here (goal.at.loop-outcome-preserved c).After-node_at-v (long (goal.at.loop-outcome-preserved c).Start)) _ _ _ l.invariant _ _ _ c.loop-outcome-test.true (sound-child (goal.at.loop-outcome-preserved c).In-Sound (is-child (goal.at.loop-outcome-preserved c).After-subtree-below (is-next (goal.at.loop-outcome-preserved c).After-after-next)))
-    (c.numbered-outcome-in-loop-outcome.ensures ∙ numbered_is (goal.at.loop-outcome-preserved c).After-heard-heard (l.k + 1))
+pub loop-k-preserved : goal.loop-k-preserved
+loop-k-preserved c =
+    let at = goal.at.loop-k-preserved c in
+    let is = is-outcome at.After-numbered-outcome in
+    pass_more _ _ _ _ _ (here at.After-node_at-v (long at.Start)) _ _ c.loop-k.invariant _ is _ _ c.if-outcome-mask.false (sound-child at.In-Some (is-child at.After-subtree (is-next at.After-after-next is)))
 
 pub returns : goal.returns
-returns c = pass_end _ _ _ _ _ (here (goal.at.returns c).After-node_at-v (long (goal.at.returns c).Start)) _ _ _ c.loop-outcome.invariant c.loop-outcome-test.false
+returns c =
+    let at = goal.at.returns c in
+    pass_ends _ _ _ _ _ (here at.After-node_at-v (long at.Start)) _ _ c.loop-k.invariant (rw (← c.heard-heard.ensures) (omega arith))

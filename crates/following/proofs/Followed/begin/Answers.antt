@@ -1,8 +1,8 @@
 -- By computing. Only the checker need believe this file.
-use mathlib.Core.Path.{refl}
+use borrow.Author.Rules.{rules}
 use Rattle.following.specs.Following.{followed_record}
-use Rattle.following.proofs.begin.Goals as goal
+use Rattle.following.proofs.Followed.begin.Goals as goal
 
 pub returns : goal.returns
 unfolding followed_record
-returns c = refl
+returns c = search rules
