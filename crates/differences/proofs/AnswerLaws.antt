@@ -17,6 +17,7 @@ use Rattle.network.specs.Limits.{bias, biased, limit_at}
 use Rattle.network.proofs.Booleans.{by_test, clash, ltb_yes, ltb_no}
 use Rattle.network.proofs.LimitLaws.{In16Bits}
 use Rattle.masks.proofs.ByteLaws.{says_among}
+use Rattle.std.specs.Prelude.{Option, Some, None, Result, Ok, Err}
 use Rattle.plan.specs.declared.Plan.{Plan}
 use Rattle.plan.specs.declared.Refusal.{Refusal}
 use Rattle.plan.specs.declared.Refusal.TheVariants as refusal
@@ -33,10 +34,8 @@ use Rattle.plan.proofs.SliceLaws.{all_same, length_listed, get_listed}
 use Rattle.judge.specs.Judge.{plan_fault}
 use Rattle.judge.proofs.WellFormedLaws.{fine_exactly}
 use Rattle.differences.specs.declared.Row.{Row}
-use Rattle.differences.specs.declared.Tabled.{Tabled}
-use Rattle.differences.specs.declared.Tabled.TheVariants as tabled
 use Rattle.differences.specs.declared.DifferenceTable.{DifferenceTable}
-use Rattle.differences.specs.Answers.{Differences, zero_row, no_table, tabling, table_answer}
+use Rattle.differences.specs.Answers.{Differences, zero_row, no_table, table_answer, rows_of}
 use Rattle.differences.specs.Says.{bits_at, Tells}
 use Rattle.differences.specs.Tabling.{closed, no_negative_cycle, shown, table_from, table_of, table_fault, difference_table}
 use Rattle.differences.proofs.IntegerLaws.{shown_as}
@@ -205,49 +204,43 @@ module _ (p : Plan) (wf : WellFormed p) (s : Scenario) where
 
 -- ---- what a call says where it answers a
 
-refused_so : (f : Tabled) (rows : List Row) (r : Refusal) → (tabling f rows).fault ≡ refusal_number r → f ≡ tabled.Refused r
-refused_so tabled.Table rows r e = absurd (no_refusal r (sym e))
-refused_so tabled.Nothing rows r e = absurd (no_refusal r (sym e))
-refused_so (tabled.Refused q) rows r e = ap tabled.Refused (refusal_one_number q r e)
+refused_so : (v : Result (Option DifferenceTable) Refusal) (r : Refusal) → (table_answer v).fault ≡ refusal_number r → v ≡ Err r
+refused_so (Ok t) r e = absurd (no_refusal r (sym e))
+refused_so (Err q) r e = ap Err (refusal_one_number q r e)
 
-none_so : (f : Tabled) (rows : List Row) → (tabling f rows).fault ≡ 0 → (tabling f rows).value.scheduled ≡ false → f ≡ tabled.Nothing
-none_so tabled.Table rows e z = clash refl z
-none_so tabled.Nothing rows e z = refl
-none_so (tabled.Refused r) rows e z = absurd (no_refusal r e)
+none_so :
+    (v : Result (Option DifferenceTable) Refusal) → (table_answer v).fault ≡ 0 → (table_answer v).value.scheduled ≡ false → v ≡ Ok None
+none_so (Ok (Some t)) e z = clash refl z
+none_so (Ok None) e z = refl
+none_so (Err r) e z = absurd (no_refusal r e)
 
-eight_so : (f : Tabled) (rows : List Row) → EightRows (tabling f rows).value → Eight rows
-eight_so tabled.Table rows e = e.eight
-eight_so tabled.Nothing rows e = e.eight
-eight_so (tabled.Refused r) rows e = e.eight
+-- beside "none" and a refusal: by `table_answer`
+pub zeros_so :
+    (v : Result (Option DifferenceTable) Refusal) → ((t : DifferenceTable) → v ≡ Ok (Some t) → ⊥) → rows_of v ≡ replicate 8 zero_row
+zeros_so (Ok (Some t)) n = absurd (n t refl)
+zeros_so (Ok None) n = refl
+zeros_so (Err r) n = refl
 
-zeros_so : (f : Tabled) (rows : List Row) → EightRows (tabling f rows).value → (f ≡ tabled.Table → ⊥) → rows ≡ replicate 8 zero_row
-zeros_so tabled.Table rows e n = absurd (n refl)
-zeros_so tabled.Nothing rows e n = e.zeros refl
-zeros_so (tabled.Refused r) rows e n = e.zeros refl
-
-module _ (v : DifferenceTable) {a : Answer Differences} (e : table_answer v ≡ a) where
+module _ (v : Result (Option DifferenceTable) Refusal) {a : Answer Differences} (e : table_answer v ≡ a) where
   pub said_fault : (table_answer v).fault ≡ a.fault
   said_fault = ap (λ (x : Answer Differences). x.fault) e
 
   pub said_value : (P : Differences → Type 0) → P a.value → P (table_answer v).value
   said_value P h = subst (λ (x : Answer Differences). P x.value) (sym e) h
 
-  pub said_refused : (r : Refusal) → a.fault ≡ refusal_number r → v.tabled ≡ tabled.Refused r
-  said_refused r h = refused_so v.tabled v.rows r (said_fault ∙ h)
+  pub said_refused : (r : Refusal) → a.fault ≡ refusal_number r → v ≡ Err r
+  said_refused r h = refused_so v r (said_fault ∙ h)
 
-  pub said_none : a.fault ≡ 0 → a.value.scheduled ≡ false → v.tabled ≡ tabled.Nothing
-  said_none h z = none_so v.tabled v.rows (said_fault ∙ h) (said_value (λ (x : Differences). x.scheduled ≡ false) z)
+  pub said_none : a.fault ≡ 0 → a.value.scheduled ≡ false → v ≡ Ok None
+  said_none h z = none_so v (said_fault ∙ h) (said_value (λ (x : Differences). x.scheduled ≡ false) z)
 
-  pub said_eight : EightRows a.value → Eight v.rows
-  said_eight eight = eight_so v.tabled v.rows (said_value EightRows eight)
-
-  pub said_zeros : EightRows a.value → (v.tabled ≡ tabled.Table → ⊥) → v.rows ≡ replicate 8 zero_row
-  said_zeros eight n = zeros_so v.tabled v.rows (said_value EightRows eight) n
+  pub said_eight : EightRows a.value → Eight (rows_of v)
+  said_eight eight = (said_value EightRows eight).eight
 
 -- ---- the faults in their order, and what is said where there is none
 
 module _ (p : Plan) (m : ℕ) where
-  pub refused_plan : (r : Refusal) → refusal_number r ≡ plan_fault p → tabling (tabled.Refused r) (replicate 8 zero_row) ≡ difference_table p m
+  pub refused_plan : (r : Refusal) → refusal_number r ≡ plan_fault p → table_answer (Err r) ≡ difference_table p m
   unfolding difference_table table_fault
   refused_plan r e = rw (← e, first_refused) (answered_refused no_table (table_of (network_of p) (bit m)) r)
 
@@ -256,7 +249,7 @@ module _ (p : Plan) (m : ℕ) where
   table_fault_lem e b t = rw (← e) (ap (λ (c : Bool). unless c refusal.Mask) t)
 
   pub refused_mask :
-      0 ≡ plan_fault p → ltb m (2 ^ p.letters) ≡ false → tabling (tabled.Refused refusal.Mask) (replicate 8 zero_row) ≡ difference_table p m
+      0 ≡ plan_fault p → ltb m (2 ^ p.letters) ≡ false → table_answer (Err refusal.Mask) ≡ difference_table p m
   unfolding difference_table unless
   refused_mask e z = rw (table_fault_lem e false z) (answered_refused no_table (table_of (network_of p) (bit m)) refusal.Mask)
 

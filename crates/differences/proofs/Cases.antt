@@ -2,7 +2,7 @@
 -- believe this file; a reader may like to.
 use mathlib.Core.Path.{◌≡◌, refl}
 use mathlib.Core.List.{List, [], ◌∷◌, ◌++◌}
-use mathlib.Core.Bool.{true}
+use mathlib.Core.Bool.{true, false}
 use Prim.Native.Nat.{ℕ, ◌-◌}
 use lib.IntN.{pos, negsuc}
 use lib.ListN.{length, replicate}
@@ -10,14 +10,16 @@ use Rattle.network.specs.Mask.{bit, all_below}
 use Rattle.network.specs.Below.{any_below}
 use Rattle.network.specs.Network.{holds}
 use Rattle.network.specs.Limits.{biased, lowered, limited, all_limited}
+use Rattle.std.specs.Prelude.{Ok, Err, None}
 use Rattle.plan.specs.declared.Plan.{Plan}
+use Rattle.plan.specs.declared.Refusal.TheVariants as refusal
 use Rattle.plan.specs.Answer.{Answer, fine}
 use Rattle.plan.specs.Faults.{unless, first, answered}
 use Rattle.plan.specs.Plan.{signed, listed}
 use Rattle.judge.specs.Judge.{head_fine, taken_before, letter_fine, letter_unused, letter_entry, letters_fine, bound_fine, constraint_fine, constraint_unused, constraint_entry, constraints_fine, plan_fault}
 use Rattle.plan.proofs.Cases.{letter, constraint, plan, one_point, k4, k5, k6, k8}
 use Rattle.differences.specs.declared.Row.{Row}
-use Rattle.differences.specs.Answers.{Differences, zero_row, no_table}
+use Rattle.differences.specs.Answers.{Differences, zero_row, no_table, table_answer}
 use Rattle.differences.specs.Says.{entry}
 use Rattle.differences.specs.Tabling.{unconstrained, passed, passes, closed, no_negative_cycle, shown, table_from, table_of, table_fault, difference_table}
 
@@ -154,6 +156,13 @@ pub bounds :
     × (difference_table (plan 9 2 [] (constraint 1 1 65535 0 0 ∷ [])) 0 ≡ no_schedule)
 unfolding computing
 bounds = (refl, refl, refl, refl, refl, refl, refl)
+
+-- ---- what an answer says: all 64 entries are zero beside "none" and beside a refusal
+
+pub zeros_beside :
+    (table_answer (Ok None) ≡ record { fault = 0; value = record { scheduled = false; rows = replicate 8 (record { to = replicate 8 0 }) } })
+    × (table_answer (Err refusal.Mask) ≡ record { fault = 8; value = record { scheduled = false; rows = replicate 8 (record { to = replicate 8 0 }) } })
+zeros_beside = (refl, refl)
 
 -- ---- refusals
 

@@ -15,6 +15,8 @@ use Rattle.network.specs.Network.{Network, Scenario}
 use Rattle.network.specs.Fixed.{Schedulable, Setting}
 use Rattle.network.specs.Differences.{Largest, ForcedBefore}
 use Rattle.network.proofs.Booleans.{by_test, ltb_no}
+use Rattle.std.specs.Prelude.{Option, Some, None, Result, Ok, Err}
+use Rattle.plan.specs.Answer.{Answer}
 use Rattle.plan.specs.declared.Plan.{Plan}
 use Rattle.plan.specs.declared.Refusal.{Refusal}
 use Rattle.plan.specs.declared.Refusal.TheVariants as refusal
@@ -24,15 +26,13 @@ use Rattle.plan.specs.WellFormed.{WellFormed}
 use Rattle.plan.proofs.RefusalLaws.{no_refusal}
 use Rattle.judge.specs.Judge.{plan_fault}
 use Rattle.differences.specs.declared.Row.{Row}
-use Rattle.differences.specs.declared.Tabled.{Tabled}
-use Rattle.differences.specs.declared.Tabled.TheVariants as tabled
 use Rattle.differences.specs.declared.DifferenceTable.{DifferenceTable}
-use Rattle.differences.specs.Answers.{zero_row, tabling, table_answer}
+use Rattle.differences.specs.Answers.{zero_row, table_answer, rows_of, Differences}
 use Rattle.differences.specs.Says.{bits_at, entry, Tells, Says}
 use Rattle.differences.specs.Tabling.{table_of, difference_table}
 use Rattle.differences.proofs.IntegerLaws.{antisymm, sub_neg, neg_sub, one_way}
-use Rattle.differences.proofs.AnswerLaws.{Eight, EightRows, table_eight, Decides, decides, fine_answer, mask_fault, plan_fault_lem, eight_answer}
-use Rattle.differences.proofs.AnswerLaws.{said_fault, said_value, said_refused, said_eight, said_zeros}
+use Rattle.differences.proofs.AnswerLaws.{Eight, Decides, decides, fine_answer, mask_fault, plan_fault_lem, eight_answer}
+use Rattle.differences.proofs.AnswerLaws.{said_fault, said_value, said_refused, said_eight, zeros_so}
 
 -- ---- largest differences
 
@@ -58,21 +58,19 @@ module _ (p : Plan) (wf : WellFormed p) (s : Scenario) where
   )
 
 says_of :
-    (p : Plan) (m : ℕ) (f : Tabled) (rows : List Row) → (tabling f rows).fault ≡ 0 → Decides (network_of p) (bit m) (tabling f rows).value →
-    EightRows (tabling f rows).value → Says p m f rows
-says_of p m tabled.Table rows e d eight = d.found refl
-says_of p m tabled.Nothing rows e d eight = (d.missing refl, eight.zeros refl)
-says_of p m (tabled.Refused r) rows e d eight = no_refusal r e
+    (p : Plan) (m : ℕ) (r : Result (Option DifferenceTable) Refusal) → (table_answer r).fault ≡ 0 →
+    Decides (network_of p) (bit m) (table_answer r).value → Says p m r
+says_of p m (Ok (Some t)) e d = d.found refl
+says_of p m (Ok None) e d = (d.missing refl, refl)
+says_of p m (Err r) e d = no_refusal r e
 
 -- the table of a call, by its contract, says so
 pub says :
-    (p : Plan) (m : ℕ) (r : DifferenceTable) → table_answer r ≡ difference_table p m → WellFormed p → Setting (network_of p) m →
-    Says p m r.tabled r.rows
+    (p : Plan) (m : ℕ) (r : Result (Option DifferenceTable) Refusal) → table_answer r ≡ difference_table p m → WellFormed p →
+    Setting (network_of p) m → Says p m r
 says p m r promised wf setting =
     let answer = promised ∙ fine_answer p m wf setting in
-    says_of p m r.tabled r.rows (said_fault r answer)
-    (said_value r answer (Decides (network_of p) (bit m)) (decides p wf (bit m)))
-    (said_value r answer EightRows (table_eight (network_of p) (bit m)))
+    says_of p m r (said_fault r answer) (said_value r answer (Decides (network_of p) (bit m)) (decides p wf (bit m)))
 
 -- entries that tell the same are the same
 one_entry :
@@ -93,22 +91,16 @@ one_telling net s a b t u =
     ap {B = Row} (λ (to : List ℕ). record { to = to })
     (ext_get_or 0 (get_or a x zero_row).to (get_or b x zero_row).to (t.of_eight x x8 ∙ sym (u.of_eight x x8)) (λ y ly. one_entry net s a b t u x y)))
 
-one_said :
-    (p : Plan) (m : ℕ) (f g : Tabled) (a b : List Row) → Says p m f a → Says p m g b →
-    ◌≡◌ {A = DifferenceTable} (record { tabled = f; rows = a }) (record { tabled = g; rows = b })
-one_said p m tabled.Table tabled.Table a b s t =
-    ap (λ (x : List Row). record { tabled = tabled.Table; rows = x }) (one_telling (network_of p) (bit m) a b s t)
-one_said p m tabled.Table tabled.Nothing a b s t = absurd (t.0 s.some_schedule)
-one_said p m tabled.Nothing tabled.Table a b s t = absurd (s.0 t.some_schedule)
-one_said p m tabled.Nothing tabled.Nothing a b s t = ap (λ (x : List Row). record { tabled = tabled.Nothing; rows = x }) (s.1 ∙ sym t.1)
-one_said p m (tabled.Refused r) g a b s t = absurd s
-one_said p m tabled.Table (tabled.Refused r) a b s t = absurd t
-one_said p m tabled.Nothing (tabled.Refused r) a b s t = absurd t
-
 -- one table fits
-pub one_table :
-    (p : Plan) (m : ℕ) (v w : DifferenceTable) → Says p m v.tabled v.rows → Says p m w.tabled w.rows → v ≡ w
-one_table p m v w = one_said p m v.tabled w.tabled v.rows w.rows
+pub one_table : (p : Plan) (m : ℕ) (v w : Result (Option DifferenceTable) Refusal) → Says p m v → Says p m w → v ≡ w
+one_table p m (Ok (Some t)) (Ok (Some u)) s r =
+    ap (λ (x : List Row). Ok (Some (record { rows = x }))) (one_telling (network_of p) (bit m) t.rows u.rows s r)
+one_table p m (Ok (Some t)) (Ok None) s r = absurd (r.0 s.some_schedule)
+one_table p m (Ok None) (Ok (Some u)) s r = absurd (s.0 r.some_schedule)
+one_table p m (Ok None) (Ok None) s r = refl
+one_table p m (Err q) w s r = absurd s
+one_table p m (Ok (Some t)) (Err q) s r = absurd r
+one_table p m (Ok None) (Err q) s r = absurd r
 
 -- ---- the forced order
 
@@ -131,38 +123,35 @@ own_zero net s rows t x lx = let l = t.largest x x lx lx in sym l.attained ∙ s
 
 -- ---- what is refused
 
-module _ (p : Plan) (m : ℕ) (r : DifferenceTable) (promised : table_answer r ≡ difference_table p m) where
+module _ (p : Plan) (m : ℕ) (r : Result (Option DifferenceTable) Refusal) (promised : table_answer r ≡ difference_table p m) where
   -- "none" exactly where there is no schedule
-  pub none_exactly : WellFormed p → Setting (network_of p) m → (r.tabled ≡ tabled.Nothing) ↔ (Schedulable (network_of p) (bit m) → ⊥)
+  pub none_exactly : WellFormed p → Setting (network_of p) m → (r ≡ Ok None) ↔ (Schedulable (network_of p) (bit m) → ⊥)
   none_exactly wf setting =
       let s = says p m r promised wf setting in (
-        λ e. (subst (λ (f : Tabled). Says p m f r.rows) e s).0,
-        none r.tabled s,
+        λ e. (subst (Says p m) e s).0,
+        none r s,
       )
     where
-      none : (f : Tabled) → Says p m f r.rows → (Schedulable (network_of p) (bit m) → ⊥) → f ≡ tabled.Nothing
-      none tabled.Table t n = absurd (n t.some_schedule)
-      none tabled.Nothing t n = refl
-      none (tabled.Refused q) t n = absurd t
+      none : (f : Result (Option DifferenceTable) Refusal) → Says p m f → (Schedulable (network_of p) (bit m) → ⊥) → f ≡ Ok None
+      none (Ok (Some t)) s n = absurd (n s.some_schedule)
+      none (Ok None) s n = refl
+      none (Err q) s n = absurd s
 
   -- 8 exactly where the mask has a letter that the plan lacks
-  pub eight_exactly : WellFormed p → (r.tabled ≡ tabled.Refused refusal.Mask) ↔ (Setting (network_of p) m → ⊥)
+  pub eight_exactly : WellFormed p → (r ≡ Err refusal.Mask) ↔ (Setting (network_of p) m → ⊥)
   eight_exactly wf = (
-    λ e setting. subst (λ (f : Tabled). Says p m f r.rows) e (says p m r promised wf setting),
+    λ e setting. subst (Says p m) e (says p m r promised wf setting),
     λ n. said_refused r promised refusal.Mask (mask_fault p m wf n),
   )
 
   -- of every plan record: there are eight rows of eight
-  pub eight_rows : Eight r.rows
+  pub eight_rows : Eight (rows_of r)
   eight_rows = said_eight r promised (eight_answer p m)
 
-  -- .. and beside "none" and any refusal they are zero
-  pub beside_none_zero : (r.tabled ≡ tabled.Table → ⊥) → r.rows ≡ replicate 8 zero_row
-  beside_none_zero = said_zeros r promised (eight_answer p m)
+  -- .. and beside "none" and any refusal those that are promised are zero
+  pub beside_none_zero : ((t : DifferenceTable) → r ≡ Ok (Some t) → ⊥) → (difference_table p m).value.rows ≡ replicate 8 zero_row
+  beside_none_zero none = sym (ap (λ (a : Answer Differences). a.value.rows) promised) ∙ zeros_so r none
 
   -- a faulty plan is refused as the judge refuses it, whatever the mask
-  pub plan_first : (f : Refusal) → refusal_number f ≡ plan_fault p → r ≡ record { tabled = tabled.Refused f; rows = replicate 8 zero_row }
-  plan_first f e =
-      let refused = said_refused r promised f (plan_fault_lem p m f e) in
-      let zeros = beside_none_zero (λ q. let z : ◌≡◌ {A = ℕ} 0 1 = cc in omega arith) in
-      λ i. record { tabled = refused i; rows = zeros i }
+  pub plan_first : (f : Refusal) → refusal_number f ≡ plan_fault p → r ≡ Err f
+  plan_first f e = said_refused r promised f (plan_fault_lem p m f e)

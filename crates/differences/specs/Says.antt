@@ -1,16 +1,16 @@
 -- Definitions: what a table of differences has to say of a well-formed plan under a setting of all its letters, in card 2's words. To be
 -- believed, for demand 1.
-use Rattle.std.specs.Prelude.{◌≡◌, ◌⊎◌, List, ℕ, ◌≤◌, ◌<◌, ℤ, length, get_or, replicate}
+use Rattle.std.specs.Prelude.{◌≡◌, ◌⊎◌, List, ℕ, ◌≤◌, ◌<◌, ℤ, length, get_or, replicate, Option, Some, None, Result, Ok, Err}
 use Rattle.network.specs.Mask.{bit}
 use Rattle.network.specs.Network.{Network, Scenario}
 use Rattle.network.specs.Fixed.{Schedulable}
 use Rattle.network.specs.Differences.{Largest}
 use Rattle.plan.specs.declared.Plan.{Plan}
+use Rattle.plan.specs.declared.Refusal.{Refusal}
 use Rattle.plan.specs.Plan.{signed, network_of}
 use Rattle.differences.specs.declared.Row.{Row}
-use Rattle.differences.specs.declared.Tabled.{Tabled}
-use Rattle.differences.specs.declared.Tabled.TheVariants as tabled
-use Rattle.differences.specs.Answers.{zero_row}
+use Rattle.differences.specs.declared.DifferenceTable.{DifferenceTable}
+use Rattle.differences.specs.Answers.{zero_row, rows_of}
 
 -- the 16 bits at row x, column y; 0 past the table
 abbrev pub bits_at : List Row → ℕ → ℕ → ℕ
@@ -31,7 +31,7 @@ pub record Tells (net : Network) (s : Scenario) (rows : List Row) : Type 0 where
   pub unused : (x y : ℕ) → (net.points ≤ x) ⊎ (net.points ≤ y) → bits_at rows x y ≡ 0
 
 -- such a table; or there is no schedule and all entries are zero
-abbrev pub Says : Plan → ℕ → Tabled → List Row → Type 0
-Says p m tabled.Table rows = Tells (network_of p) (bit m) rows
-Says p m tabled.Nothing rows = (Schedulable (network_of p) (bit m) → ⊥) × (rows ≡ replicate 8 zero_row)
-Says p m (tabled.Refused r) rows = ⊥
+abbrev pub Says : Plan → ℕ → Result (Option DifferenceTable) Refusal → Type 0
+Says p m (Ok (Some t)) = Tells (network_of p) (bit m) t.rows
+Says p m (Ok None) = (Schedulable (network_of p) (bit m) → ⊥) × (rows_of (Ok None) ≡ replicate 8 zero_row)
+Says p m (Err r) = ⊥

@@ -1,24 +1,21 @@
 // The tightening passes: a table of limits, eight rows of eight, is handed on by value from pass to pass, one for each intermediate point.
+// Document 01 asks for an array of arrays by value ("Expected forms by place"), so no struct holds the table and the number of points.
 ghost use Rattle.std.specs.Prelude.{◌≡◌, ◌+◌, ◌-◌, ◌*◌, ◌^◌, min, ◌≤◌, ◌<◌, get_or};
 ghost use Rattle.network.specs.Limits.{bias};
 ghost use Rattle.plan.specs.Plan.{listed};
 ghost use Rattle.differences.specs.Tabling.{unconstrained, passed, passes, no_negative_cycle};
 ghost use Rattle.differences.specs.Ranges.{Joins, half_range, InRange};
 
-use constraints::limits;
 use constraints::limits::BIAS;
+use std::array::from_fn;
 
 // The limits that the horizon alone sets: no point is after itself, and none is more than the horizon after another.
 pub fn unconstrained(horizon: u8) -> [[u32; 8]; 8]
     ensures { result ≡ unconstrained horizon }
 {
-    let mut limits = [[0u32; 8]; 8];
-    let mut x: usize = 0;
-    while x < 8 {
-        let mut row = [BIAS + horizon as u32; 8];
-        row[x] = BIAS;
-        limits[x] = row;
-        x += 1;
+    let mut limits = [[BIAS + horizon as u32; 8]; 8];
+    for x in 0..8 {
+        limits[x][x] = BIAS;
     }
     limits
 }
@@ -29,13 +26,7 @@ fn tighten_row(row: [u32; 8], first: u32, via: [u32; 8]) -> [u32; 8]
     requires { Joins first via }
     ensures { result ≡ listed 8 (λ y. min (get_or row y 0) (first + get_or via y 0 - bias)) }
 {
-    let mut tight = [0u32; 8];
-    let mut y: usize = 0;
-    while y < 8 {
-        tight[y] = limits::lesser(row[y], first + via[y] - BIAS);
-        y += 1;
-    }
-    tight
+    from_fn(|y| row[y].min(first + via[y] - BIAS))
 }
 
 // The pass over point k: each limit of Y - X is lowered to the sum of those of k - X and Y - k, where that is less.
@@ -44,13 +35,12 @@ fn tighten(limits: [[u32; 8]; 8], k: u8) -> [[u32; 8]; 8]
     ensures { result ≡ passed k limits }
 {
     let via = limits[k as usize];
-    let mut tight = [[0u32; 8]; 8];
-    let mut x: usize = 0;
-    while x < 8 {
+    let mut tight = [[0; 8]; 8];
+    // by an index: a closure for `from_fn` or `map` would say both clauses again, since `tighten_row` asks something of each row
+    for x in 0..8 {
         let row = limits[x];
         let next = tighten_row(row, row[k as usize], via);
         tight[x] = next;
-        x += 1;
     }
     tight
 }
@@ -61,11 +51,10 @@ pub fn close(limits: [[u32; 8]; 8], n: u8) -> [[u32; 8]; 8]
     ensures { result ≡ passes n limits }
 {
     let mut tight = limits;
-    let mut k: u8 = 0;
-    while k < n {
+    for k in 0..n {
+        // a call's array is bound first: assigned to a variable that is there already, it isn't covered by the proof
         let next = tighten(tight, k);
         tight = next;
-        k += 1;
     }
     tight
 }
@@ -76,13 +65,5 @@ pub fn no_negative_cycle(limits: [[u32; 8]; 8], n: u8) -> bool
     requires { n ≤ 8 }
     ensures { result ≡ no_negative_cycle n limits }
 {
-    let mut x: u8 = 0;
-    while x < n {
-        let row = limits[x as usize];
-        if row[x as usize] < BIAS {
-            return false;
-        }
-        x += 1;
-    }
-    true
+    (0..n as usize).all(|x| BIAS <= limits[x][x])
 }

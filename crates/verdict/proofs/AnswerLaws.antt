@@ -7,10 +7,11 @@ use mathlib.Core.List.{List}
 use Prim.Native.Nat.{ℕ, ◌^◌}
 use lib.Dec.{ltb, eqb}
 use lib.ListN.{length, replicate}
+use Rattle.std.specs.Prelude.{Result, Ok, Err, Some, None}
 use Rattle.network.specs.Mask.{bit}
 use Rattle.network.specs.Network.{Scenario}
 use Rattle.network.specs.Fixed.{Setting, PassesScreen}
-use Rattle.network.proofs.Booleans.{by_test, clash, ltb_yes, ltb_is}
+use Rattle.network.proofs.Booleans.{by_test, ltb_yes, ltb_is}
 use Rattle.network.proofs.BelowLaws.{all_at, all_make}
 use Rattle.plan.specs.declared.Plan.{Plan}
 use Rattle.plan.specs.declared.Refusal.{Refusal}
@@ -26,31 +27,20 @@ use Rattle.judge.proofs.WellFormedLaws.{fine_exactly}
 use Rattle.plan.proofs.AnswerLaws.{first_refused, answered_fault, answered_fine, answered_refused}
 use Rattle.plan.proofs.PlanTheorems.{is_network}
 use Rattle.plan.proofs.RefusalLaws.{refusal_one_number, no_refusal}
-use Rattle.verdict.specs.declared.Found.{Found}
-use Rattle.verdict.specs.declared.Found.TheVariants as found
-use Rattle.verdict.specs.declared.Verdict.{Verdict}
-use Rattle.verdict.specs.declared.screen.Screened.{Screened}
-use Rattle.verdict.specs.declared.screen.Screened.TheVariants as screen
 use Rattle.verdict.specs.Verdict.{verdict_of, verdict_fault, least_schedule, passes, screened}
-use Rattle.verdict.specs.Answers.{Fixed, none, saying, verdict_answer, screen_answer}
+use Rattle.verdict.specs.Answers.{Fixed, none, Verdict, verdict_answer, screen_answer}
 use Rattle.verdict.proofs.LeastLaws.{EightSlots, none_eight, verdict_eight, Decides, decides_yes, verdict_decides}
 
 -- ---- what a call says where it answers a
 
-refused_so : (f : Found) (slots : List ℕ) (r : Refusal) → (saying f slots).fault ≡ refusal_number r → f ≡ found.Refused r
-refused_so found.Least slots r e = absurd (no_refusal r (sym e))
-refused_so found.Nothing slots r e = absurd (no_refusal r (sym e))
-refused_so (found.Refused q) slots r e = ap found.Refused (refusal_one_number q r e)
+refused_so : (v : Verdict) (r : Refusal) → (verdict_answer v).fault ≡ refusal_number r → v ≡ Err r
+refused_so (Ok said) r e = absurd (no_refusal r (sym e))
+refused_so (Err q) r e = ap Err (refusal_one_number q r e)
 
-long_so : (f : Found) (slots : List ℕ) → EightSlots (saying f slots).value → length slots ≡ 8
-long_so found.Least slots eight = eight.long
-long_so found.Nothing slots eight = eight.long
-long_so (found.Refused r) slots eight = eight.long
-
-zeros_so : (f : Found) (slots : List ℕ) → EightSlots (saying f slots).value → (f ≡ found.Least → ⊥) → slots ≡ replicate 8 0
-zeros_so found.Least slots eight n = absurd (n refl)
-zeros_so found.Nothing slots eight n = eight.zeros refl
-zeros_so (found.Refused r) slots eight n = eight.zeros refl
+zeros_so : (v : Verdict) → ((slots : List ℕ) → v ≡ Ok (Some slots) → ⊥) → (verdict_answer v).value.slots ≡ replicate 8 0
+zeros_so (Ok (Some slots)) n = absurd (n slots refl)
+zeros_so (Ok None) n = refl
+zeros_so (Err r) n = refl
 
 module _ (v : Verdict) {a : Answer Fixed} (e : verdict_answer v ≡ a) where
   pub said_fault : (verdict_answer v).fault ≡ a.fault
@@ -59,50 +49,43 @@ module _ (v : Verdict) {a : Answer Fixed} (e : verdict_answer v ≡ a) where
   pub said_value : (P : Fixed → Type 0) → P a.value → P (verdict_answer v).value
   said_value P h = subst (λ (x : Answer Fixed). P x.value) (sym e) h
 
-  pub said_refused : (r : Refusal) → a.fault ≡ refusal_number r → v.found ≡ found.Refused r
-  said_refused r h = refused_so v.found v.slots r (said_fault ∙ h)
+  pub said_refused : (r : Refusal) → a.fault ≡ refusal_number r → v ≡ Err r
+  said_refused r h = refused_so v r (said_fault ∙ h)
 
-  pub said_long : EightSlots a.value → length v.slots ≡ 8
-  said_long eight = long_so v.found v.slots (said_value EightSlots eight)
+  pub said_long : EightSlots a.value → length (verdict_answer v).value.slots ≡ 8
+  said_long eight = (said_value EightSlots eight).long
 
-  pub said_zeros : EightSlots a.value → (v.found ≡ found.Least → ⊥) → v.slots ≡ replicate 8 0
-  said_zeros eight n = zeros_so v.found v.slots (said_value EightSlots eight) n
+  pub said_zeros : ((slots : List ℕ) → v ≡ Ok (Some slots) → ⊥) → (verdict_answer v).value.slots ≡ replicate 8 0
+  said_zeros n = zeros_so v n
 
-passed_so : (r : Screened) → (screen_answer r).fault ≡ 0 → (screen_answer r).value ≡ true → r ≡ screen.Passed
-passed_so screen.Passed e t = refl
-passed_so screen.Failed e t = clash t refl
-passed_so (screen.Refused f) e t = absurd (no_refusal f e)
+passed_so : (r : Result Bool Refusal) (b : Bool) → (screen_answer r).fault ≡ 0 → (screen_answer r).value ≡ b → r ≡ Ok b
+passed_so (Ok passed) b e same = ap Ok same
+passed_so (Err f) b e same = absurd (no_refusal f e)
 
-failed_so : (r : Screened) → (screen_answer r).fault ≡ 0 → (screen_answer r).value ≡ false → r ≡ screen.Failed
-failed_so screen.Passed e z = clash refl z
-failed_so screen.Failed e z = refl
-failed_so (screen.Refused f) e z = absurd (no_refusal f e)
+refused_screen_so : (r : Result Bool Refusal) (f : Refusal) → (screen_answer r).fault ≡ refusal_number f → r ≡ Err f
+refused_screen_so (Ok passed) f e = absurd (no_refusal f (sym e))
+refused_screen_so (Err q) f e = ap Err (refusal_one_number q f e)
 
-refused_screen_so : (r : Screened) (f : Refusal) → (screen_answer r).fault ≡ refusal_number f → r ≡ screen.Refused f
-refused_screen_so screen.Passed f e = absurd (no_refusal f (sym e))
-refused_screen_so screen.Failed f e = absurd (no_refusal f (sym e))
-refused_screen_so (screen.Refused q) f e = ap screen.Refused (refusal_one_number q f e)
-
-module _ (r : Screened) {a : Answer Bool} (e : screen_answer r ≡ a) where
+module _ (r : Result Bool Refusal) {a : Answer Bool} (e : screen_answer r ≡ a) where
   screen_fault : (screen_answer r).fault ≡ a.fault
   screen_fault = ap (λ (x : Answer Bool). x.fault) e
 
   screen_value : (screen_answer r).value ≡ a.value
   screen_value = ap (λ (x : Answer Bool). x.value) e
 
-  pub said_passed : a.fault ≡ 0 → (r ≡ screen.Passed) ↔ (a.value ≡ true)
-  said_passed h = (
-    λ q. sym screen_value ∙ ap (λ (x : Screened). (screen_answer x).value) q,
-    λ t. passed_so r (screen_fault ∙ h) (screen_value ∙ t),
+  says_so : (b : Bool) → a.fault ≡ 0 → (r ≡ Ok b) ↔ (a.value ≡ b)
+  says_so b h = (
+    λ q. sym screen_value ∙ ap (λ (x : Result Bool Refusal). (screen_answer x).value) q,
+    λ t. passed_so r b (screen_fault ∙ h) (screen_value ∙ t),
   )
 
-  pub said_failed : a.fault ≡ 0 → (r ≡ screen.Failed) ↔ (a.value ≡ false)
-  said_failed h = (
-    λ q. sym screen_value ∙ ap (λ (x : Screened). (screen_answer x).value) q,
-    λ z. failed_so r (screen_fault ∙ h) (screen_value ∙ z),
-  )
+  pub said_passed : a.fault ≡ 0 → (r ≡ Ok true) ↔ (a.value ≡ true)
+  said_passed = says_so true
 
-  pub said_refused_screen : (f : Refusal) → a.fault ≡ refusal_number f → r ≡ screen.Refused f
+  pub said_failed : a.fault ≡ 0 → (r ≡ Ok false) ↔ (a.value ≡ false)
+  said_failed = says_so false
+
+  pub said_refused_screen : (f : Refusal) → a.fault ≡ refusal_number f → r ≡ Err f
   said_refused_screen f h = refused_screen_so r f (screen_fault ∙ h)
 
 -- ---- the verdict
@@ -110,7 +93,7 @@ module _ (r : Screened) {a : Answer Bool} (e : screen_answer r ≡ a) where
 module _ (p : Plan) where
   -- the faults in their order, and what is said where there is none
   module _ (m : ℕ) where
-    pub refused_plan : (r : Refusal) → refusal_number r ≡ plan_fault p → saying (found.Refused r) (replicate 8 0) ≡ least_schedule p m
+    pub refused_plan : (r : Refusal) → refusal_number r ≡ plan_fault p → verdict_answer (Err r) ≡ least_schedule p m
     unfolding least_schedule verdict_fault
     refused_plan r e = rw (← e, first_refused) (answered_refused none (verdict_of (network_of p) (bit m)) r)
 
@@ -119,7 +102,7 @@ module _ (p : Plan) where
     verdict_fault_lem e b t = rw (← e) (ap (λ (c : Bool). unless c refusal.Mask) t)
 
     pub refused_mask :
-        0 ≡ plan_fault p → ltb m (2 ^ p.letters) ≡ false → saying (found.Refused refusal.Mask) (replicate 8 0) ≡ least_schedule p m
+        0 ≡ plan_fault p → ltb m (2 ^ p.letters) ≡ false → verdict_answer (Err refusal.Mask) ≡ least_schedule p m
     unfolding least_schedule unless
     refused_mask e z = rw (verdict_fault_lem e false z) (answered_refused none (verdict_of (network_of p) (bit m)) refusal.Mask)
 
@@ -127,7 +110,7 @@ module _ (p : Plan) where
     unfolding least_schedule unless
     decided e y = sym (answered_fine none (verdict_fault p m) (verdict_of (network_of p) (bit m)) (verdict_fault_lem e true y))
 
-  pub screen_refused : (r : Refusal) → refusal_number r ≡ plan_fault p → screen_answer (screen.Refused r) ≡ screened p
+  pub screen_refused : (r : Refusal) → refusal_number r ≡ plan_fault p → screen_answer (Err r) ≡ screened p
   unfolding screened
   screen_refused r e = rw (← e) (answered_refused false (passes p) r)
 

@@ -1,30 +1,23 @@
--- `shown_rows`: the rows passed, and rows of zeros behind them. Only the checker need believe this file.
-use mathlib.Core.Path.{◌≡◌, ap, ◌∙◌}
+-- `shown_rows`: each row by its own call. Only the checker need believe this file.
+use mathlib.Core.Bool.{cond, ◌&&◌}
 use mathlib.Core.List.{List}
-use Prim.Native.Nat.{ℕ}
-use native.Mathlib.Omega.{arith}
+use Prim.Native.Nat.{ℕ, ◌%◌}
 use borrow.Author.Rules.{rules}
-use Rattle.plan.proofs.SliceLaws.{filled_to, fill_start, fill_next, fill_end}
+use lib.Dec.{ltb}
+use Rattle.network.specs.Limits.{limit_at}
+use Rattle.plan.specs.Plan.{listed}
 use Rattle.differences.specs.declared.Row.{Row}
 use Rattle.differences.specs.Answers.{zero_row}
 use Rattle.differences.specs.Tabling.{shown}
-use Rattle.differences.proofs.shown_rows.Invariants.{shownRow}
+use Rattle.differences.proofs.ArrayLaws.{made_listed, row_is}
 use Rattle.differences.proofs.shown_rows.Goals as goal
 
-pub loop-x-init : goal.loop-x-init
-loop-x-init c = (omega arith, fill_start zero_row 8 (shownRow c.args.limits c.args.n))
-
-pub loop-x-preserved : goal.loop-x-preserved
-loop-x-preserved c =
-    let a = c.args in
-    let l = c.loop-x in
-    let e = ap {B = Row} (λ (to : List ℕ). record { to = to }) c.shown_row-row.ensures in
-    (search rules, fill_next zero_row 8 (shownRow a.limits a.n) l.x l.rows _ (search rules) l.invariant.1 e)
+-- the row of x
+abbrev row : List (List ℕ) → ℕ → ℕ → Row
+row t n x = record { to = listed 8 (λ y. cond (ltb x n && ltb y n) (limit_at t x y % 65536) 0) }
 
 pub returns : goal.returns
 unfolding shown
 returns c =
-    let f = shownRow c.args.limits c.args.n in
-    let l = c.loop-x in
-    let all : l.x ≡ 8 = omega arith in
-    l.invariant.1 ∙ ap (filled_to zero_row 8 f) all ∙ fill_end zero_row 8 f
+    let a = c.args in
+    made_listed _ _ (row a.limits a.n) 8 zero_row c.from_fn.result (λ x r q lt call. search (rules, row_is)) c.from_fn.ensures.items

@@ -6,7 +6,6 @@ use Prim.Native.Nat.{ℕ}
 use Rattle.network.specs.Mask.{bit}
 use Rattle.network.specs.Limits.{all_limited}
 use Rattle.network.proofs.Booleans.{denied, granted}
-use Rattle.plan.specs.Answer.{Answer, fine}
 use Rattle.plan.specs.Plan.{network_of}
 use Rattle.differences.specs.declared.Row.{Row}
 use Rattle.differences.specs.Answers.{Differences}
@@ -40,16 +39,14 @@ closed_is c = c.close-closed.ensures ∙ ap (passes c.args.plan.points) (limits-
 pub returns-then-not-no_negative_cycle : goal.returns-then-not-no_negative_cycle
 returns-then-not-no_negative_cycle c =
     let p = c.args.plan in
-    let s = bit c.args.values in
     let said = denied c.no_negative_cycle.ensures (ap not c.if-not-no_negative_cycle.true) in
-    c.without_table.ensures
-    ∙ ap fine (is_none (network_of p) s (ap (no_negative_cycle p.points) (sym (closed_is (goal.at.returns-then-not-no_negative_cycle c).After-close-closed)) ∙ said))
+    is_none (network_of p) (bit c.args.values)
+    (ap (no_negative_cycle p.points) (sym (closed_is (goal.at.returns-then-not-no_negative_cycle c).After-close-closed)) ∙ said)
 
 pub returns : goal.returns
 returns c =
     let p = c.args.plan in
-    let s = bit c.args.values in
     let said = granted c.no_negative_cycle.ensures (ap not c.if-not-no_negative_cycle.false) in
     let rows = c.shown_rows-rows.ensures ∙ ap (shown p.points) (closed_is (goal.at.returns c).After-close-closed) in
-    ap {B = Answer Differences} (λ (r : List Row). fine (record { scheduled = true; rows = r })) rows
-    ∙ ap fine (is_table (network_of p) s (ap (no_negative_cycle p.points) (sym (closed_is (goal.at.returns c).After-close-closed)) ∙ said))
+    ap {B = Differences} (λ (r : List Row). record { scheduled = true; rows = r }) rows
+    ∙ is_table (network_of p) (bit c.args.values) (ap (no_negative_cycle p.points) (sym (closed_is (goal.at.returns c).After-close-closed)) ∙ said)

@@ -1,30 +1,18 @@
--- `within_horizon`: the points passed are within the horizon, and one that is not decides. Only the checker need believe this file.
-use mathlib.Core.Path.{◌≡◌, sym}
-use native.Mathlib.Omega.{arith}
-use Rattle.network.proofs.Booleans.{leb_yes, leb_no}
-use Rattle.network.proofs.BelowLaws.{all_start, all_next, all_fails}
-use Rattle.verdict.proofs.within_horizon.Invariants.{within}
+-- `within_horizon`: none of the points' slots is past the horizon, or one is. Only the checker need believe this file.
+use Prim.Native.Nat.{◌≤◌, ◌<◌}
+use borrow.Author.Rules.{rules}
+use borrow.Author.Tests.{tests}
+use Rattle.std.proofs.lemmas.Iterator.{cases_from_all, YieldsList-from_slice, YieldsList-from_take}
+use Rattle.verdict.specs.Verdict.{within_horizon}
+use Rattle.verdict.proofs.CodeLaws.{each_within}
 use Rattle.verdict.proofs.within_horizon.Goals as goal
 
-pub loop-x-init : goal.loop-x-init
-loop-x-init c = (omega arith, all_start (within c.args.horizon c.args.slots))
-
-pub returns-then-horizon-slot_of : goal.returns-then-horizon-slot_of
-returns-then-horizon-slot_of c =
-    let a = c.args in
-    let x = c.loop-x.x in
-    sym (all_fails (within a.horizon a.slots) a.points x (omega arith)
-    (rw (← c.slot_of.ensures) (leb_no c.slot_of.result a.horizon (λ le. omega arith))))
-
-pub loop-x-preserved : goal.loop-x-preserved
-loop-x-preserved c =
-    let a = c.args in (
-      omega arith,
-      all_next (within a.horizon a.slots) c.loop-x.x c.loop-x.invariant.1
-          (rw (← c.slot_of.ensures) (leb_yes c.slot_of.result a.horizon (omega arith))),
-    )
-
 pub returns : goal.returns
+unfolding within_horizon
 returns c =
-    let e : c.loop-x.x ≡ c.args.points = omega arith in
-    sym (rw e at c.loop-x.invariant.1)
+    let p = c.args.plan.now in
+    let slots = c.args.slots.now in
+    each_within p.points p.horizon slots c.all.result
+    (cases_from_all _ _ _ (λ v. v ≤ p.horizon) (λ v. p.horizon < v) c.all.ensures.ran
+    (YieldsList-from_take p.points (YieldsList-from_slice slots cc) cc)
+    (λ x q k. search (rules, tests)) (λ x q k. search (rules, tests)))

@@ -14,6 +14,3 @@ row limits k x = listed 8 (λ y. min (limit_at limits x y) (limit_at limits x k 
 
 abbrev pub invariant-loop-x : goal.invariant-loop-x
 invariant-loop-x l = (l.x ≤ 8) × (l.tight ≡ filled_to (replicate 8 0) 8 (row l.limits l.k) l.x)
-
-abbrev pub decreases-loop-x : goal.decreases-loop-x
-decreases-loop-x l = 8 - l.x
