@@ -1,9 +1,13 @@
 -- Laws that the proofs of the code cite: a text at the front of blank bytes, what the search and the reading say. Only the checker need
 -- believe this file.
+use Rattle.std.specs.Prelude.{Result, Ok, Err}
 use mathlib.Core.Path.{◌≡◌, refl, sym, ap, ◌∙◌}
 use mathlib.Core.Bool.{true}
 use mathlib.Core.List.{List, ◌++◌}
-use Prim.Native.Nat.{ℕ, ◌+◌, ◌-◌, ◌*◌, ◌≤◌}
+use Rattle.std.specs.Prelude.{Result, Ok, Err}
+use Prim.Native.Nat.{ℕ, ◌+◌, ◌-◌, ◌*◌, ◌≤◌, min}
+use mathlib.Core.Logic.{by_cases}
+use native.Mathlib.Decide.{dec_lt}
 use native.Mathlib.Omega.{arith}
 use native.Mathlib.Nat.{zero-add}
 use borrow.Author.Tests.{le-leb}
@@ -11,26 +15,21 @@ use lib.ListN.{length, take, drop, replicate, length-replicate, replicate-append
 use lib.Seq.{sets-eq, drop_at, length-take-le, take_all}
 use Rattle.plan.specs.declared.Plan.{Plan}
 use Rattle.plan.specs.declared.Refusal.{Refusal}
-use Rattle.plan.specs.declared.Judged.TheVariants as judged
-use Rattle.plan.specs.Refusal.{refusal_number, judged_number}
+use Rattle.plan.specs.Refusal.{refusal_number}
 use Rattle.plan.specs.Answer.{Answer, fine, refused}
 use Rattle.plan.specs.Faults.{filled, put_at}
 use Rattle.plan.proofs.RefusalLaws.{no_refusal, some_number}
 use Rattle.frame.specs.Frame.{fault_text}
-use Rattle.frame.specs.declared.Written.TheVariants as written
 use Rattle.frame.specs.Texts.{refusal_text}
 use Rattle.frame.specs.Written.{written_answer}
 use Rattle.frame.proofs.RunLaws.{filled_is}
 use Rattle.tree.specs.Nodes.{most_bytes, legal_length}
 use Rattle.tree.proofs.NodeLaws.{legal_make}
-use Rattle.plan_text.specs.declared.PlanRead.{PlanRead}
 use Rattle.plan_text.specs.PlanRead.{plan_read_answer}
 use Rattle.tree_text.specs.TreeText.{tree_text}
 use Rattle.tree_text.specs.WriteTree.{write_tree, write_tree_leaves}
 use Rattle.tree_text.proofs.TreeTextLaws.{writes}
 use Rattle.tree_text.proofs.TreeTextTheorems.{at_most_1724}
-use Rattle.search.specs.declared.Searched.{Searched}
-use Rattle.search.specs.declared.Searched.TheVariants as searched
 use Rattle.search.specs.Search.{search_answer, search_leaves}
 use Rattle.search.specs.Searched.{searched_answer}
 use Rattle.search.proofs.SearchTheorems.{count_bounds, same_length, fault_is}
@@ -89,7 +88,7 @@ module _ (bs xs : List ℕ) (legal : legal_length (length bs) ≡ true) (zeros :
       writes bs xs legal (omega arith)
 
   pub tree_held :
-      (n : ℕ) (ys : List ℕ) → written_answer (written.Length n) ≡ write_tree bs xs → ys ≡ write_tree_leaves bs xs →
+      (n : ℕ) (ys : List ℕ) → written_answer (Ok n) ≡ write_tree bs xs → ys ≡ write_tree_leaves bs xs →
       record { bytes = ys; length = n } ≡ holding (tree_text bs)
   tree_held n ys said left =
       held (tree_text bs) ys n (ap (λ (a : Answer ℕ). a.value) (said ∙ written_fine))
@@ -97,13 +96,13 @@ module _ (bs xs : List ℕ) (legal : legal_length (length bs) ≡ true) (zeros :
       ∙ ap (λ (a : Answer ℕ). filled a.fault (tree_text bs) xs) written_fine
       ∙ filled_blank 1724 (tree_text bs) (at_most_1724 bs legal) xs zeros)
 
-  pub never_refused : (r : Refusal) → written_answer (written.Refused r) ≡ write_tree bs xs → ⊥
+  pub never_refused : (r : Refusal) → written_answer (Err r) ≡ write_tree bs xs → ⊥
   never_refused r said = no_refusal r (ap (λ (a : Answer ℕ). a.fault) (said ∙ written_fine))
 
 -- ---- what is printed for a plan, where the search said r and left ys
 
-module _ (p : Plan) (r : Searched) (said : searched_answer r ≡ search_answer p lent) (ys : List ℕ) (left : ys ≡ search_leaves p lent) where
-  module _ (n : ℕ) (e : r ≡ searched.Nodes n) where
+module _ (p : Plan) (r : Result ℕ Refusal) (said : searched_answer r ≡ search_answer p lent) (ys : List ℕ) (left : ys ≡ search_leaves p lent) where
+  module _ (n : ℕ) (e : r ≡ Ok n) where
     answer : fine n ≡ search_answer p lent
     answer = sym (ap searched_answer e) ∙ said
 
@@ -130,7 +129,7 @@ module _ (p : Plan) (r : Searched) (said : searched_answer r ≡ search_answer p
     unfolding plan_answer
     tree_printed = rw (left, ← answer)
 
-  pub search_refused : (f : Refusal) → r ≡ searched.Refused f → refusal_text f ≡ plan_answer p
+  pub search_refused : (f : Refusal) → r ≡ Err f → refusal_text f ≡ plan_answer p
   unfolding plan_answer
   search_refused f e =
       let answer : refused 0 f ≡ search_answer p lent = sym (ap searched_answer e) ∙ said in
@@ -138,19 +137,23 @@ module _ (p : Plan) (r : Searched) (said : searched_answer r ≡ search_answer p
 
 -- ---- what is printed for an input, where reading its first k bytes said r
 
-module _ (s : List ℕ) (r : PlanRead) (said : plan_read_answer r ≡ plan_in s) where
-  pub text_refused : (f : Refusal) → r.answer ≡ judged.Refused f → refusal_text f ≡ answer_text s
+module _ (s : List ℕ) (r : Result Plan Refusal) (said : plan_read_answer r ≡ plan_in s) where
+  pub text_refused : (f : Refusal) → r ≡ Err f → refusal_text f ≡ answer_text s
   unfolding answer_text
   text_refused f e =
-      let fault : refusal_number f ≡ (plan_in s).fault = sym (ap judged_number e) ∙ ap (λ (a : Answer Plan). a.fault) said in
+      let fault : refusal_number f ≡ (plan_in s).fault = ap (λ (a : Answer Plan). a.fault) (sym (ap plan_read_answer e) ∙ said) in
       rw (← fault, some_number f)
 
-  pub text_read : r.answer ≡ judged.Fine → plan_answer r.plan ≡ answer_text s
+  pub text_read : (p : Plan) → r ≡ Ok p → plan_answer p ≡ answer_text s
   unfolding answer_text
-  text_read e =
-      let fault : 0 ≡ (plan_in s).fault = sym (ap judged_number e) ∙ ap (λ (a : Answer Plan). a.fault) said in
-      rw (← fault) (ap (λ (a : Answer Plan). plan_answer a.value) said)
+  text_read p e =
+      let is : fine p ≡ plan_in s = sym (ap plan_read_answer e) ∙ said in
+      rw (← is)
 
--- the whole of an input that is short enough
-pub all_judged : (s : List ℕ) → length s ≤ 1026 → take (length s) s ≡ take 1026 s
-all_judged s le = take_all (length s) s (omega arith) ∙ sym (take_all 1026 s le)
+-- as many bytes of an input are judged as there are, 1,026 at most
+pub part_judged : (s : List ℕ) → take (min (length s) 1026) s ≡ take 1026 s
+part_judged s =
+    by_cases (dec_lt (length s) 1026)
+    (λ lt. let few : min (length s) 1026 ≡ length s = omega arith in
+    ap (λ (k : ℕ). take k s) few ∙ take_all (length s) s (omega arith) ∙ sym (take_all 1026 s (omega arith)))
+    (λ ge. let many : min (length s) 1026 ≡ 1026 = omega arith in ap (λ (k : ℕ). take k s) many)

@@ -8,12 +8,15 @@ ghost use Rattle.tree_text.specs.TreeText.{tree_text};
 ghost use Rattle.answer_text.specs.AnswerText.{lent, plan_answer, answer_text};
 ghost use Rattle.answer_text.specs.Holding.{holding};
 
-use frame::{Written, writing};
-use plan::{Judged, Plan, Refusal};
+use frame::{Kind, writing};
+use plan::{Plan, Refusal};
 use plan_text::reading;
-use search::Searched;
 
-// A text: the first `length` of the bytes. Those behind it are zero.
+// How many bytes of the input are judged.
+const JUDGED: usize = 1026;
+
+// A text: the first `length` of the bytes. Those behind it are zero. (No heap: the text is handed back by value in the room of the longest, so
+// its length stands beside it.)
 #[derive(Clone, Copy)]
 pub struct AnswerText {
     pub bytes: [u8; 1724],
@@ -38,11 +41,8 @@ fn refusal_text(r: Refusal) -> AnswerText
     ensures { result ≡ holding (refusal_text r) }
 {
     let mut bytes = blank_text();
-    writing::put_frame(&mut bytes, 0, &[127, plan::number(r)]);
-    AnswerText {
-        bytes: bytes,
-        length: 5,
-    }
+    writing::put_frame(&mut bytes, 0, &[Kind::Refusal as u8, r.into()]);
+    AnswerText { bytes, length: 5 }
 }
 
 // The text of a tree's bytes.
@@ -51,13 +51,9 @@ fn tree_answer(nodes: &[u8]) -> AnswerText
     ensures { result ≡ holding (tree_text nodes.now) }
 {
     let mut bytes = blank_text();
-    let written = tree_text::writing::write_tree(nodes, &mut bytes);
-    match written {
-        Written::Length(n) => AnswerText {
-            bytes: bytes,
-            length: n,
-        },
-        Written::Refused(r) => refusal_text(r),
+    match tree_text::writing::write_tree(nodes, &mut bytes) {
+        Ok(length) => AnswerText { bytes, length },
+        Err(r) => refusal_text(r),
     }
 }
 
@@ -66,10 +62,9 @@ fn plan_answer(plan: Plan) -> AnswerText
     ensures { result ≡ holding (plan_answer plan) }
 {
     let mut nodes = blank_tree();
-    let searched = search::search(plan, &mut nodes);
-    match searched {
-        Searched::Nodes(n) => tree_answer(&nodes[..3 * (n as usize)]),
-        Searched::Refused(r) => refusal_text(r),
+    match search::search(plan, &mut nodes) {
+        Ok(n) => tree_answer(&nodes[..3 * (n as usize)]),
+        Err(refusal) => refusal_text(refusal),
     }
 }
 
@@ -77,15 +72,9 @@ fn plan_answer(plan: Plan) -> AnswerText
 pub fn answer_to(input: &[u8]) -> AnswerText
     ensures { result ≡ holding (answer_text input.now) }
 {
-    let judged = if input.len() < 1026 {
-        input.len()
-    } else {
-        1026
-    };
-    let read = reading::read_plan(&input[..judged]);
-    let answer = read.answer;
-    if let Judged::Refused(r) = answer {
-        return refusal_text(r);
+    let judged = input.len().min(JUDGED);
+    match reading::read_plan(&input[..judged]) {
+        Ok(plan) => plan_answer(plan),
+        Err(fault) => refusal_text(fault),
     }
-    plan_answer(read.plan)
 }

@@ -1,7 +1,9 @@
 -- Definitions: the answer of a call as one number. Computed: pinned by `library_demands` of
 -- tureenlark/proofs/LibraryTheorem.antt.
-use Rattle.std.specs.Prelude.{Bool, cond, ℕ, ◌+◌, eqb}
+use Rattle.std.specs.Prelude.{Bool, cond, ℕ, ◌+◌, eqb, Option, Some, None, Result, Ok, Err}
 use Rattle.network.specs.Mask.{digit}
+use Rattle.plan.specs.declared.Refusal.{Refusal}
+use Rattle.plan.specs.Refusal.{refusal_number}
 use Rattle.plan.specs.Answer.{Answer}
 use Rattle.run.specs.Told.{Told, instruct, complete, refuse}
 use Rattle.verdict.specs.Answers.{Fixed}
@@ -36,3 +38,13 @@ abbrev pub told_number : Told → ℕ
 told_number (instruct m) = 1
 told_number complete = 0
 told_number (refuse n) = fault_number n
+
+-- the number of what a call hands back, by a reading of what it is where nothing is refused
+abbrev pub number_of : {A : Type 0} → (A → ℕ) → Result A Refusal → ℕ
+number_of reading (Ok a) = reading a
+number_of reading (Err r) = fault_number (refusal_number r)
+
+-- 1 for something, 0 for nothing
+abbrev pub some_number : {A : Type 0} → Option A → ℕ
+some_number None = 0
+some_number (Some a) = 1

@@ -2,5 +2,6 @@
 #![tactic(auto)]
 
 pub mod numbers;
+pub mod places;
 pub mod steps;
 pub mod tables;

@@ -1,66 +1,95 @@
-// Answers as numbers, for programs in other languages: the result, or 7F00 (hexadecimal) and the refusal's number.
-ghost use Rattle.std.specs.Prelude.{◌≡◌};
-ghost use Rattle.plan.specs.Refusal.{refusal_number, judged_number};
-ghost use Rattle.frame.specs.Written.{written_answer};
-ghost use Rattle.tree_text.specs.TreeRead.{tree_read_answer};
-ghost use Rattle.search.specs.Searched.{searched_answer};
+// Answers as numbers, for programs in other languages: the result, or 7F00 (hexadecimal) and the refusal's number. (The C interface has
+// numbers in place of enums.)
+ghost use Rattle.std.specs.Prelude.{◌≡◌, ℕ};
+ghost use Rattle.network.specs.Mask.{digit};
+ghost use Rattle.plan.specs.Refusal.{refusal_number};
 ghost use Rattle.run.specs.Told.{shown_told};
-ghost use Rattle.verdict.specs.Answers.{saying, screen_answer};
-ghost use Rattle.differences.specs.Answers.{tabling};
-ghost use Rattle.answers.specs.Numbers.{fault_number, numbered, answer_number, told_number, fixed_number, test_number, table_number};
+ghost use Rattle.answers.specs.Numbers.{fault_number, number_of, some_number, told_number};
 
-use differences::{Row, Tabled};
-use frame::Written;
-use plan::{Judged, Refusal};
+use plan::{Plan, Refusal};
 use run::Shown;
-use search::Searched;
-use tree_text::TreeRead;
-use verdict::Found;
-use verdict::screen::Screened;
+
+// From here on an answer is a refusal.
+const REFUSED: usize = 0x7F00;
 
 pub fn refused(r: Refusal) -> usize
     ensures { result ≡ fault_number (refusal_number r) }
 {
-    0x7F00 + plan::number(r) as usize
+    REFUSED + usize::from(u8::from(r))
 }
 
-// 1 for fine.
-pub fn judged(answer: Judged) -> usize
-    ensures { result ≡ numbered (judged_number answer) 1 }
-{
-    match answer {
-        Judged::Fine => 1,
-        Judged::Refused(r) => refused(r),
+// What a call hands back where it is not refused, read as a number.
+pub trait AsNumber {
+    ghost reading: { Self → ℕ };
+
+    fn as_number(self) -> usize
+        ensures { result ≡ reading self };
+}
+
+// What only says fine is 1.
+impl AsNumber for () {
+    ghost reading = { λ _. 1 };
+
+    fn as_number(self) -> usize {
+        1 // fine
+    }
+}
+
+// A plan that was read is 1.
+impl AsNumber for Plan {
+    ghost reading = { λ _. 1 };
+
+    fn as_number(self) -> usize {
+        1 // read
+    }
+}
+
+// Yes is 1, no is 0.
+impl AsNumber for bool {
+    ghost reading = { digit };
+
+    fn as_number(self) -> usize {
+        usize::from(self)
+    }
+}
+
+// A number of nodes.
+impl AsNumber for u8 {
+    ghost reading = { λ n. n };
+
+    fn as_number(self) -> usize {
+        self.into()
     }
 }
 
 // The length of a text.
-pub fn written(answer: Written) -> usize
-    ensures { result ≡ answer_number (written_answer answer) }
-{
-    match answer {
-        Written::Length(n) => n,
-        Written::Refused(r) => refused(r),
+impl AsNumber for usize {
+    ghost reading = { λ n. n };
+
+    fn as_number(self) -> usize {
+        self // bytes
     }
 }
 
-// The number of nodes of a tree that was read.
-pub fn tree_read(answer: TreeRead) -> usize
-    ensures { result ≡ answer_number (tree_read_answer answer) }
-{
-    match answer {
-        TreeRead::Nodes(n) => n as usize,
-        TreeRead::Refused(r) => refused(r),
+// 1 for a schedule or a table, 0 for none.
+impl<T: Copy> AsNumber for Option<T> {
+    ghost reading = { some_number };
+
+    fn as_number(self) -> usize {
+        match self {
+            Some(_) => 1,
+            None => 0,
+        }
     }
 }
 
-// The number of nodes of a tree that was searched.
-pub fn searched(answer: Searched) -> usize
-    ensures { result ≡ answer_number (searched_answer answer) }
+// The number of an answer.
+pub fn number<T: AsNumber>(answer: Result<T, Refusal>) -> usize
+    ensures { result ≡ number_of (T.reading) answer }
 {
     match answer {
-        Searched::Nodes(n) => n as usize,
-        Searched::Refused(r) => refused(r),
+        Ok(value) => value.as_number(),
+        Err(r) => refused(r),
     }
 }
 
@@ -72,38 +101,5 @@ pub fn shown(answer: Shown) -> usize
         Shown::Instruct(_) => 1,
         Shown::Done => 0,
         Shown::Refused(r) => refused(r),
-    }
-}
-
-// 1 for a schedule, 0 for none.
-pub fn found(answer: Found, slots: [u8; 8]) -> usize
-    ensures { result ≡ fixed_number (saying answer slots) }
-{
-    match answer {
-        Found::Least => 1,
-        Found::Nothing => 0,
-        Found::Refused(r) => refused(r),
-    }
-}
-
-// 1 where every setting has a schedule, 0 where one has none.
-pub fn screened(answer: Screened) -> usize
-    ensures { result ≡ test_number (screen_answer answer) }
-{
-    match answer {
-        Screened::Passed => 1,
-        Screened::Failed => 0,
-        Screened::Refused(r) => refused(r),
-    }
-}
-
-// 1 for a table, 0 for none.
-pub fn tabled(answer: Tabled, rows: [Row; 8]) -> usize
-    ensures { result ≡ table_number (tabling answer rows) }
-{
-    match answer {
-        Tabled::Table => 1,
-        Tabled::Nothing => 0,
-        Tabled::Refused(r) => refused(r),
     }
 }

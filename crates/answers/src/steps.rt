@@ -15,10 +15,8 @@ use run::Shown;
 pub fn put_told(out: &mut [u8], told: Shown)
     ensures { out.new ≡ put_at out.old 0 (told_bytes (shown_told told)) }
 {
-    match told {
-        Shown::Instruct(v) => storing::put_bytes(out, 0, &[v.slot, v.points, v.choices]),
-        Shown::Done => {}
-        Shown::Refused(_) => {}
+    if let Shown::Instruct(v) = told {
+        storing::put_bytes(out, 0, &[v.slot, v.points, v.choices]);
     }
 }
 
@@ -35,12 +33,7 @@ pub fn put_steps(out: &mut [u8], followed: Followed)
     requires { 32 ≤ length out.old }
     ensures { out.new ≡ sets out.old 0 (join_below 8 (λ i. step_bytes (get_or followed.steps i zero_step))) }
 {
-    let steps = followed.steps;
-    let mut at: usize = 0;
-    let mut i: usize = 0;
-    while i < 8 {
-        put_step(out, at, steps[i]);
-        at += 4;
-        i += 1;
+    for i in 0..8 {
+        put_step(out, 4 * i, followed.steps[i]);
     }
 }

@@ -17,20 +17,15 @@ fn put_entry(out: &mut [u8], at: usize, bits: u16)
     requires { at + 2 ≤ length out.old }
     ensures { out.new ≡ sets out.old at (entry_bytes bits) }
 {
-    storing::put_bytes(out, at, &[(bits / 256) as u8, (bits % 256) as u8]);
+    storing::put_bytes(out, at, &bits.to_be_bytes());
 }
 
 fn put_row(out: &mut [u8], at: usize, row: Row)
     requires { at + 16 ≤ length out.old }
     ensures { out.new ≡ sets out.old at (row_bytes row) }
 {
-    let to = row.to;
-    let mut place = at;
-    let mut y: usize = 0;
-    while y < 8 {
-        put_entry(out, place, to[y]);
-        place += ENTRY;
-        y += 1;
+    for y in 0..8 {
+        put_entry(out, at + ENTRY * y, row.to[y]);
     }
 }
 
@@ -39,11 +34,7 @@ pub fn put_table(out: &mut [u8], rows: [Row; 8])
     requires { table_length ≤ length out.old }
     ensures { out.new ≡ sets out.old 0 (table_bytes rows) }
 {
-    let mut at: usize = 0;
-    let mut x: usize = 0;
-    while x < 8 {
-        put_row(out, at, rows[x]);
-        at += ROW;
-        x += 1;
+    for x in 0..8 {
+        put_row(out, ROW * x, rows[x]);
     }
 }

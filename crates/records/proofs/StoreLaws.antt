@@ -1,11 +1,12 @@
 -- Laws of the loops that store bytes. Only the checker need believe this file.
 use mathlib.Core.Path.{◌≡◌, refl, sym, ap, ◌∙◌}
-use mathlib.Core.List.{List, ◌++◌}
-use Prim.Native.Nat.{ℕ, suc, ◌+◌, ◌≤◌, ◌<◌}
+use mathlib.Core.List.{List, ◌++◌, append_assoc}
+use Prim.Native.Nat.{ℕ, ◌+◌, ◌≤◌, ◌<◌}
 use native.Mathlib.Omega.{arith}
 use borrow.Author.Tests.{le-leb, lt-leb}
-use lib.ListN.{length, get_or, set, drop, length-append, length-set}
-use lib.Seq.{sets, drop-cons, drop-length}
+use lib.ListN.{length, set, take, drop, length-append, length-set}
+use borrow.Rule.Slice.PartMut.{put_mid}
+use lib.Seq.{sets, sets-eq, drop-drop}
 use Rattle.network.proofs.JoinLaws.{join_length}
 use Rattle.plan.specs.declared.Plan.{Plan}
 use Rattle.plan.specs.Plan.{letter_at, constraint_at}
@@ -16,28 +17,19 @@ use Rattle.records.specs.Records.{letter_bytes, constraint_bytes, head_bytes, le
 
 -- ---- bytes stored one after the other
 
-pub store_start : (b out : List ℕ) (at : ℕ) → sets out at b ≡ sets out (at + 0) (drop 0 b)
-store_start b out at = let e : at + 0 ≡ at = omega arith in ap (λ (n : ℕ). sets out n b) (sym e)
-
-pub store_next :
-    (b out : List ℕ) (at k : ℕ) → k < length b →
-    sets out (at + k) (drop k b) ≡ sets (set out (at + k) (get_or b k 0)) (at + (k + 1)) (drop (k + 1) b)
-store_next b out at k lt =
-    let e : suc (at + k) ≡ at + (k + 1) = omega arith in
-    let f : suc k ≡ k + 1 = omega arith in
-    ap (sets out (at + k)) (drop-cons b k 0 lt)
-    ∙ ap (λ (n : ℕ). sets (set out (at + k) (get_or b k 0)) n (drop (suc k) b)) e
-    ∙ ap (λ (n : ℕ). sets (set out (at + k) (get_or b k 0)) (at + (k + 1)) (drop n b)) f
-
-pub store_end : (b out : List ℕ) (at k : ℕ) → length b ≡ k → sets out (at + k) (drop k b) ≡ out
-store_end b out at k e = rw (← e, drop-length)
-
 -- there is room, or none
 pub put_there : (xs : List ℕ) (at : ℕ) (b : List ℕ) → at + length b ≤ length xs → sets xs at b ≡ put_at xs at b
 put_there xs at b h = rw (le-leb (at + length b) (length xs) h)
 
 pub no_room : (xs : List ℕ) (at : ℕ) (b : List ℕ) → length xs < at + length b → xs ≡ put_at xs at b
 no_room xs at b h = rw (lt-leb (at + length b) (length xs) h)
+
+-- a part of a buffer that was copied over
+pub put_part : (xs : List ℕ) (at n : ℕ) (b ys : List ℕ) → at + length b ≤ length xs → n ≡ length b → ys ≡ b → put_mid at n xs ys ≡ put_at xs at b
+put_part xs at n b ys h long same =
+    let behind : drop n (drop at xs) ≡ drop (at + n) xs = drop-drop n at xs in
+    let one : put_mid at n xs ys ≡ sets xs at b = rw (same, behind, long) (sym (sets-eq b xs at h ∙ append_assoc (take at xs) b (drop (at + length b) xs))) in
+    one ∙ put_there xs at b h
 
 -- a history: its count, then its masks
 pub history_put :

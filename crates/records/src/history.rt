@@ -6,6 +6,7 @@ ghost use Rattle.records.specs.Records.{history_in, history_bytes};
 use crate::storing;
 use plan::bytes;
 use run::History;
+use std::array;
 
 // How many bytes the record of a history has.
 pub const LENGTH: usize = 9;
@@ -16,16 +17,7 @@ pub fn history_in(source: &[u8]) -> History
 {
     History {
         count: bytes::byte_or_zero(source, 0),
-        masks: [
-            bytes::byte_or_zero(source, 1),
-            bytes::byte_or_zero(source, 2),
-            bytes::byte_or_zero(source, 3),
-            bytes::byte_or_zero(source, 4),
-            bytes::byte_or_zero(source, 5),
-            bytes::byte_or_zero(source, 6),
-            bytes::byte_or_zero(source, 7),
-            bytes::byte_or_zero(source, 8),
-        ],
+        masks: array::from_fn(|i| bytes::byte_or_zero(source, 1 + i)),
     }
 }
 
@@ -36,7 +28,6 @@ pub fn put_history(out: &mut [u8], h: History)
     if out.len() < LENGTH {
         return;
     }
-    let masks = h.masks;
     out[0] = h.count;
-    storing::put_bytes(out, 1, &masks);
+    storing::put_bytes(out, 1, &h.masks);
 }

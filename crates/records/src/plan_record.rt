@@ -7,6 +7,7 @@ ghost use Rattle.records.specs.Records.{letter_from, constraint_from, plan_in, l
 
 use crate::storing;
 use plan::{Constraint, Letter, Plan, bytes};
+use std::array;
 
 // How many bytes the record of a plan has.
 pub const LENGTH: usize = 400;
@@ -32,7 +33,7 @@ fn constraint_from(source: &[u8], at: usize) -> Constraint
     Constraint {
         from: bytes::byte_or_zero(source, at),
         to: bytes::byte_or_zero(source, at + 1),
-        bound: 256 * (high as u16) + (low as u16),
+        bound: u16::from_be_bytes([high, low]),
         need: bytes::byte_or_zero(source, at + 4),
         truth: bytes::byte_or_zero(source, at + 5),
     }
@@ -41,32 +42,13 @@ fn constraint_from(source: &[u8], at: usize) -> Constraint
 fn letters_in(source: &[u8]) -> [Letter; 6]
     ensures { result ≡ listed 6 (λ i. letter_from source.now (4 + 2 * i)) }
 {
-    let mut letters = [Letter { point: 0, kind: 0 }; 6];
-    let mut i: usize = 0;
-    while i < 6 {
-        letters[i] = letter_from(source, 4 + 2 * i);
-        i += 1;
-    }
-    letters
+    array::from_fn(|i| letter_from(source, 4 + 2 * i))
 }
 
 fn constraints_in(source: &[u8]) -> [Constraint; 64]
     ensures { result ≡ listed 64 (λ j. constraint_from source.now (16 + 6 * j)) }
 {
-    let none = Constraint {
-        from: 0,
-        to: 0,
-        bound: 0,
-        need: 0,
-        truth: 0,
-    };
-    let mut constraints = [none; 64];
-    let mut j: usize = 0;
-    while j < 64 {
-        constraints[j] = constraint_from(source, 16 + 6 * j);
-        j += 1;
-    }
-    constraints
+    array::from_fn(|j| constraint_from(source, 16 + 6 * j))
 }
 
 // The plan that a record says, by its first 400 bytes. Slicing to 400 bytes first lets the compiler drop the bounds test of each read.
@@ -92,16 +74,13 @@ fn put_letter(out: &mut [u8], at: usize, l: Letter)
     storing::put_bytes(out, at, &[l.point, l.kind]);
 }
 
+// `put_constraints` differs in the entry's length and writer: one function for both would take these, and be no shorter than the two.
 fn put_letters(out: &mut [u8], p: Plan)
     requires { 400 ≤ length out.old }
     ensures { out.new ≡ sets out.old 4 (letters_bytes p) }
 {
-    let mut at: usize = 4;
-    let mut i: u8 = 0;
-    while i < 6 {
-        put_letter(out, at, p.letter[i as usize]);
-        at += 2;
-        i += 1;
+    for i in 0..6 {
+        put_letter(out, 4 + 2 * i, p.letter[i]);
     }
 }
 
@@ -109,8 +88,7 @@ fn put_constraint(out: &mut [u8], at: usize, c: Constraint)
     requires { at + 6 ≤ length out.old }
     ensures { out.new ≡ sets out.old at (constraint_bytes c) }
 {
-    let high = (c.bound / 256) as u8;
-    let low = (c.bound % 256) as u8;
+    let [high, low] = c.bound.to_be_bytes();
     storing::put_bytes(out, at, &[c.from, c.to, high, low, c.need, c.truth]);
 }
 
@@ -118,12 +96,8 @@ fn put_constraints(out: &mut [u8], p: Plan)
     requires { 400 ≤ length out.old }
     ensures { out.new ≡ sets out.old 16 (constraints_bytes p) }
 {
-    let mut at: usize = 16;
-    let mut j: u8 = 0;
-    while j < 64 {
-        put_constraint(out, at, p.constraint[j as usize]);
-        at += 6;
-        j += 1;
+    for j in 0..64 {
+        put_constraint(out, 16 + 6 * j, p.constraint[j]);
     }
 }
 

@@ -1,34 +1,26 @@
 -- `answer_to`: the first 1,026 bytes are read, and what that says is printed. Only the checker need believe this file.
 use mathlib.Core.Path.{◌≡◌, ap, ◌∙◌}
-use Prim.Native.Nat.{ℕ}
-use native.Mathlib.Omega.{arith}
 use lib.ListN.{take}
 use Rattle.plan_text.specs.ReadPlan.{read_plan}
 use Rattle.plan_text.specs.PlanRead.{plan_read_answer}
 use Rattle.answer_text.specs.AnswerText.{plan_in}
 use Rattle.answer_text.specs.Holding.{holding}
-use Rattle.answer_text.proofs.CodeLaws.{all_judged, text_refused, text_read}
+use Rattle.answer_text.proofs.CodeLaws.{part_judged, text_refused, text_read}
 use Rattle.answer_text.proofs.answer_to.Goals as goal
-use Rattle.answer_text.proofs.answer_to.Goals.{After-read_plan-read, then-input-lt1026, else-input-lt1026}
+use Rattle.answer_text.proofs.answer_to.Goals.{After-read_plan}
 
--- as many bytes are judged as there are, 1,026 at most
-same_part : (c : After-read_plan-read) → take c.if-input-lt1026.judged c.args.input.now ≡ take 1026 c.args.input.now
-same_part c =
+said : (c : After-read_plan) → plan_read_answer c.read_plan.result ≡ plan_in c.args.input.now
+said c =
     let s = c.args.input.now in
-    elim c.if-input-lt1026.branch [
-      | then-input-lt1026 w ↦ ap (λ (k : ℕ). take k s) w.judged-is ∙ all_judged s (omega arith)
-      | else-input-lt1026 w ↦ ap (λ (k : ℕ). take k s) w.judged-is
-    ]
+    let part : take c.min-judged.result s ≡ take 1026 s = rw (c.min-judged.ensures) (part_judged s) in
+    c.read_plan.ensures ∙ ap read_plan part
 
-said : (c : After-read_plan-read) → plan_read_answer c.read_plan-read.result ≡ plan_in c.args.input.now
-said c = c.read_plan-read.ensures ∙ ap read_plan (same_part c)
-
-pub returns-in-Refused : goal.returns-in-Refused
-returns-in-Refused c =
+pub returns-in-Err : goal.returns-in-Err
+returns-in-Err c =
     c.refusal_text.ensures
-    ∙ ap holding (text_refused _ c.read_plan-read.result (said (goal.at.returns-in-Refused c).After-read_plan-read) _ c.in-Refused.is)
+    ∙ ap holding (text_refused _ c.read_plan.result (said (goal.at.returns-in-Err c).After-read_plan) _ c.in-Err.is)
 
-pub returns : goal.returns
-returns c =
+pub returns-in-Ok : goal.returns-in-Ok
+returns-in-Ok c =
     c.plan_answer.ensures
-    ∙ ap holding (text_read _ c.read_plan-read.result (said (goal.at.returns c).After-read_plan-read) c.in_default.is)
+    ∙ ap holding (text_read _ c.read_plan.result (said (goal.at.returns-in-Ok c).After-read_plan) _ c.in-Ok.is)

@@ -4,5 +4,5 @@ use Rattle.answer_text.proofs.refusal_text.Goals as goal
 
 pub returns : goal.returns
 returns c =
-    refusal_held c.args.r c.number.result c.blank_text-bytes.result _ c.number.ensures c.blank_text-bytes.ensures
+    refusal_held c.args.r c.into.result c.blank_text-bytes.result _ c.into.ensures c.blank_text-bytes.ensures
     c.put_frame.ensures

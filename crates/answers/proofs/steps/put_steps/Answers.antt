@@ -1,6 +1,7 @@
 -- The invariant: what was stored are the bytes of the steps passed. Only the checker need believe this file.
 use borrow.Author.Rules.{rules}
-use mathlib.Core.Path.{◌≡◌, refl, ◌∙◌}
+use mathlib.Core.Path.{◌≡◌, refl}
+use Prim.Native.Nat.{◌*◌}
 use native.Mathlib.Omega.{arith}
 use lib.ListN.{get_or}
 use Rattle.network.specs.Mask.{join_below}
@@ -16,16 +17,11 @@ loop-i-init c = search rules
 pub loop-i-preserved : goal.loop-i-preserved
 loop-i-preserved c =
     let a = c.args in
-    let l = c.loop-i in (
-      search rules,
-      search rules,
-      c.put_step.auto.out ∙ l.invariant.2,
-      join_next (λ k. step_bytes (get_or a.followed.steps k zero_step)) 4 (λ k. refl) a.out.now 0 l.at l.i (omega arith)
-          (rw l.invariant.3 at c.put_step.ensures),
-    )
+    let l = c.loop-i in
+    join_next (λ k. step_bytes (get_or a.followed.steps k zero_step)) 4 (λ k. refl) a.out.now 0 (4 * l.i) l.i (omega arith)
+    (rw l.invariant at c.put_step.ensures)
 
 pub returns : goal.returns
 returns c =
-    let l = c.loop-i in
-    let all : 8 ≡ l.i = omega arith in
-    rw all l.invariant.3
+    let all : 8 ≡ c.loop-i.i = omega arith in
+    rw all c.loop-i.invariant

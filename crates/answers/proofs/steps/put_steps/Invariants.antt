@@ -1,7 +1,6 @@
 -- The invariant: what was stored are the bytes of the steps passed. Only the checker need believe this file.
 use mathlib.Core.Path.{◌≡◌}
-use Prim.Native.Nat.{◌*◌, ◌-◌, ◌≤◌}
-use lib.ListN.{length, get_or}
+use lib.ListN.{get_or}
 use lib.Seq.{sets}
 use Rattle.network.specs.Mask.{join_below}
 use Rattle.following.specs.Following.{zero_step}
@@ -9,9 +8,4 @@ use Rattle.answers.specs.Steps.{step_bytes}
 use Rattle.answers.proofs.steps.put_steps.Given as goal
 
 abbrev pub invariant-loop-i : goal.invariant-loop-i
-invariant-loop-i l =
-    (l.i ≤ 8) × (l.at ≡ 4 * l.i) × (length l.out ≡ length l.initial.out)
-    × (l.out ≡ sets l.initial.out 0 (join_below l.i (λ k. step_bytes (get_or l.steps k zero_step))))
-
-abbrev pub decreases-loop-i : goal.decreases-loop-i
-decreases-loop-i l = 8 - l.i
+invariant-loop-i l = l.out ≡ sets l.initial.out 0 (join_below l.i (λ k. step_bytes (get_or l.followed.steps k zero_step)))

@@ -1,5 +1,6 @@
 -- The invariant: what was stored are the bytes of the entries passed. Only the checker need believe this file.
-use mathlib.Core.Path.{◌≡◌, refl, ◌∙◌}
+use mathlib.Core.Path.{◌≡◌, refl}
+use Prim.Native.Nat.{◌+◌, ◌*◌}
 use native.Mathlib.Omega.{arith}
 use lib.ListN.{get_or}
 use borrow.Author.Rules.{rules}
@@ -15,16 +16,11 @@ loop-y-init c = search rules
 pub loop-y-preserved : goal.loop-y-preserved
 loop-y-preserved c =
     let a = c.args in
-    let l = c.loop-y in (
-      search rules,
-      omega arith,
-      c.put_entry.auto.out ∙ l.invariant.2,
-      join_next (λ k. entry_bytes (get_or a.row.to k 0)) 2 (λ k. refl) a.out.now a.at l.place l.y (omega arith)
-          (rw l.invariant.3 at c.put_entry.ensures),
-    )
+    let l = c.loop-y in
+    join_next (λ k. entry_bytes (get_or a.row.to k 0)) 2 (λ k. refl) a.out.now a.at (a.at + 2 * l.y) l.y refl
+    (rw l.invariant at c.put_entry.ensures)
 
 pub returns : goal.returns
 returns c =
-    let l = c.loop-y in
-    let all : 8 ≡ l.y = omega arith in
-    rw all l.invariant.3
+    let all : 8 ≡ c.loop-y.y = omega arith in
+    rw all c.loop-y.invariant

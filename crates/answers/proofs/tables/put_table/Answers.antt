@@ -2,6 +2,7 @@
 use mathlib.Core.Path.{◌≡◌, ap, ◌∙◌}
 use mathlib.Core.List.{[]}
 use Prim.Native.Nat.{ℕ}
+use Prim.Native.Nat.{◌*◌}
 use native.Mathlib.Omega.{arith}
 use lib.ListN.{length, get_or}
 use lib.Seq.{sets}
@@ -24,17 +25,12 @@ loop-x-preserved c =
     let l = c.loop-x in
     let long : length a.rows ≡ 8 = search rules in
     let row : get_or a.rows l.x (record { to = [] }) ≡ get_or a.rows l.x zero_row = same_default a.rows (record { to = [] }) zero_row l.x (omega arith) in
-    let put = c.put_row.ensures ∙ ap (λ (r : Row). sets l.out l.at (row_bytes r)) row in (
-      search rules,
-      omega arith,
-      c.put_row.auto.out ∙ l.invariant.2,
-      join_next (λ k. row_bytes (get_or a.rows k zero_row)) 16 (λ k. row_length (get_or a.rows k zero_row)) a.out.now 0 l.at l.x
-          (omega arith) (rw l.invariant.3 at put),
-    )
+    let put = c.put_row.ensures ∙ ap (λ (r : Row). sets l.out (16 * l.x) (row_bytes r)) row in
+    join_next (λ k. row_bytes (get_or a.rows k zero_row)) 16 (λ k. row_length (get_or a.rows k zero_row)) a.out.now 0 (16 * l.x) l.x
+    (omega arith) (rw l.invariant at put)
 
 pub returns : goal.returns
 returns c =
     let a = c.args in
-    let l = c.loop-x in
-    let all : l.x ≡ 8 = omega arith in
-    l.invariant.3 ∙ ap (λ (n : ℕ). sets a.out.now 0 (join_below n (λ k. row_bytes (get_or a.rows k zero_row)))) all
+    let all : c.loop-x.x ≡ 8 = omega arith in
+    c.loop-x.invariant ∙ ap (λ (n : ℕ). sets a.out.now 0 (join_below n (λ k. row_bytes (get_or a.rows k zero_row)))) all

@@ -1,7 +1,6 @@
 -- The invariant: what was stored are the bytes of the rows passed. Only the checker need believe this file.
 use mathlib.Core.Path.{◌≡◌}
-use Prim.Native.Nat.{◌*◌, ◌-◌, ◌≤◌}
-use lib.ListN.{length, get_or}
+use lib.ListN.{get_or}
 use lib.Seq.{sets}
 use Rattle.network.specs.Mask.{join_below}
 use Rattle.differences.specs.Answers.{zero_row}
@@ -9,9 +8,4 @@ use Rattle.answers.specs.Tables.{row_bytes}
 use Rattle.answers.proofs.tables.put_table.Given as goal
 
 abbrev pub invariant-loop-x : goal.invariant-loop-x
-invariant-loop-x l =
-    (l.x ≤ 8) × (l.at ≡ 16 * l.x) × (length l.out ≡ length l.initial.out)
-    × (l.out ≡ sets l.initial.out 0 (join_below l.x (λ k. row_bytes (get_or l.rows k zero_row))))
-
-abbrev pub decreases-loop-x : goal.decreases-loop-x
-decreases-loop-x l = 8 - l.x
+invariant-loop-x l = l.out ≡ sets l.initial.out 0 (join_below l.x (λ k. row_bytes (get_or l.rows k zero_row)))

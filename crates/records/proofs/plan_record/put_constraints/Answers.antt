@@ -1,5 +1,6 @@
 -- The invariant: what was stored are the bytes of the entries passed. Only the checker need believe this file.
-use mathlib.Core.Path.{◌≡◌, refl, ◌∙◌}
+use mathlib.Core.Path.{◌≡◌, refl}
+use Prim.Native.Nat.{◌+◌, ◌*◌}
 use native.Mathlib.Omega.{arith}
 use borrow.Author.Rules.{rules}
 use Rattle.network.specs.Mask.{join_below}
@@ -15,16 +16,10 @@ loop-j-init c = search rules
 pub loop-j-preserved : goal.loop-j-preserved
 loop-j-preserved c =
     let a = c.args in
-    let l = c.loop-j in (
-      search rules,
-      search rules,
-      c.put_constraint.auto.out ∙ l.invariant.2,
-      join_next (λ k. constraint_bytes (constraint_at a.p k)) 6 (λ k. refl) a.out.now 16 l.at l.j l.invariant.1
-          (rw l.invariant.3 at c.put_constraint.ensures),
-    )
+    let l = c.loop-j in
+    join_next (λ k. constraint_bytes (constraint_at a.p k)) 6 (λ k. refl) a.out.now 16 (16 + 6 * l.j) l.j refl (rw l.invariant at c.put_constraint.ensures)
 
 pub returns : goal.returns
 returns c =
-    let l = c.loop-j in
-    let all : 64 ≡ l.j = omega arith in
-    rw all l.invariant.3
+    let all : 64 ≡ c.loop-j.j = omega arith in
+    rw all c.loop-j.invariant

@@ -1,5 +1,6 @@
 -- The invariant: what was stored are the bytes of the entries passed. Only the checker need believe this file.
-use mathlib.Core.Path.{◌≡◌, refl, ◌∙◌}
+use mathlib.Core.Path.{◌≡◌, refl}
+use Prim.Native.Nat.{◌+◌, ◌*◌}
 use native.Mathlib.Omega.{arith}
 use borrow.Author.Rules.{rules}
 use Rattle.network.specs.Mask.{join_below}
@@ -15,16 +16,10 @@ loop-i-init c = search rules
 pub loop-i-preserved : goal.loop-i-preserved
 loop-i-preserved c =
     let a = c.args in
-    let l = c.loop-i in (
-      search rules,
-      search rules,
-      c.put_letter.auto.out ∙ l.invariant.2,
-      join_next (λ k. letter_bytes (letter_at a.p k)) 2 (λ k. refl) a.out.now 4 l.at l.i l.invariant.1
-          (rw l.invariant.3 at c.put_letter.ensures),
-    )
+    let l = c.loop-i in
+    join_next (λ k. letter_bytes (letter_at a.p k)) 2 (λ k. refl) a.out.now 4 (4 + 2 * l.i) l.i refl (rw l.invariant at c.put_letter.ensures)
 
 pub returns : goal.returns
 returns c =
-    let l = c.loop-i in
-    let all : 6 ≡ l.i = omega arith in
-    rw all l.invariant.3
+    let all : 6 ≡ c.loop-i.i = omega arith in
+    rw all c.loop-i.invariant
