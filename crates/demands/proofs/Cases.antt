@@ -1,5 +1,6 @@
 -- Cases: document 01's K14, from the search to the end of the run, by computing: what is handed back for K4 and left in a buffer, a crew's
 -- calls with what each hands back, and what it did by its steps. So demand 3 is not said of nothing. Only the checker need believe this file; a reader may like to.
+use Rattle.std.specs.Prelude.{Ok, Err}
 use mathlib.Core.Path.{◌≡◌, refl}
 use mathlib.Core.Logic.{inl, inr}
 use mathlib.Core.List.{List, [], ◌∷◌}
@@ -11,12 +12,10 @@ use Rattle.network.specs.Network.{keeps}
 use Rattle.network.specs.Crew.{times_performed, slot_by_steps, value_by_steps, Some, Hears}
 use Rattle.plan.specs.declared.Refusal.{Refusal}
 use Rattle.plan.specs.declared.Refusal.TheVariants as refusal
-use Rattle.plan.specs.declared.Judged.TheVariants as judged
 use Rattle.plan.specs.Plan.{network_of}
 use Rattle.plan.proofs.Cases.{k4}
 use Rattle.tree.specs.Nodes.{first_nodes, overwritten}
 use Rattle.checker.proofs.Cases.{k4_tree}
-use Rattle.search.specs.declared.Searched.TheVariants as searched
 use Rattle.search.proofs.Cases.{computing}
 use Rattle.run.specs.declared.Instruction.{Instruction}
 use Rattle.run.specs.declared.Reported.{Reported}
@@ -38,7 +37,7 @@ use Rattle.demands.proofs.MadeLaws.{calls_of}
 abbrev k4_lent : List ℕ
 k4_lent = replicate 573 255
 
-pub k4_searched : SearchedBy planner k4 k4_lent (searched.Nodes 3) (overwritten k4_tree k4_lent)
+pub k4_searched : SearchedBy planner k4 k4_lent (Ok 3) (overwritten k4_tree k4_lent)
 unfolding computing
 k4_searched = record { answer = refl; buffer = refl }
 
@@ -58,10 +57,10 @@ abbrev after_true : Shown
 after_true = shown.Instruct (instruction 1 2 0)
 
 abbrev accepted : List ℕ → Reported
-accepted os = record { answer = judged.Fine; history = history_of os }
+accepted os = record { answer = Ok tt; history = history_of os }
 
 abbrev refused : Refusal → List ℕ → Reported
-refused r os = record { answer = judged.Refused r; history = history_of os }
+refused r os = record { answer = Err r; history = history_of os }
 
 -- shown the root; report 2 is refused (8), report 1 accepted; shown slot 1; report 0 accepted; a further report is refused (9)
 abbrev k14_made : List Made

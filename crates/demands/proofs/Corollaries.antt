@@ -1,5 +1,6 @@
 -- What follows from demand 3: whatever a crew has called, some calls more bring its run to done, so that what is said of done runs is never
 -- said of none; and what `follow` hands back is that of a crew. Read the last two statements; only the checker need believe the proofs.
+use Rattle.std.specs.Prelude.{Result, Ok}
 use mathlib.Core.Path.{◌≡◌, refl, sym, ap, ◌∙◌, subst}
 use mathlib.Core.Logic.{◌⊎◌, inl, inr, ⊎_elim}
 use mathlib.Core.List.{List, [], ◌∷◌, ◌++◌, map, map-append, append_assoc, append-nil}
@@ -11,10 +12,9 @@ use Rattle.network.specs.Crew as crew
 use Rattle.network.proofs.Booleans.{clash}
 use Rattle.network.proofs.MaskLaws.{bit_zero}
 use Rattle.plan.specs.declared.Plan.{Plan}
+use Rattle.plan.specs.declared.Refusal.{Refusal}
 use Rattle.plan.specs.WellFormed.{WellFormed}
 use Rattle.tree.specs.Nodes.{most_bytes, first_nodes}
-use Rattle.search.specs.declared.Searched.{Searched}
-use Rattle.search.specs.declared.Searched.TheVariants as searched
 use Rattle.run.specs.declared.History.{History}
 use Rattle.run.specs.History.{empty_history}
 use Rattle.run.specs.Told.{Told, instruct, complete, refuse, instructed}
@@ -94,8 +94,8 @@ module _ (R : Run) (p : Plan) (tree : List ℕ) where
 -- empty.
 
 module _
-    (P : Planner) (demand : Demand3 P) (p : Plan) (lent : List ℕ) (wf : WellFormed p) (room : most_bytes ≤ length lent) (r : Searched)
-    (left : List ℕ) (by : SearchedBy P p lent r left) (n : ℕ) (e : r ≡ searched.Nodes n) where
+    (P : Planner) (demand : Demand3 P) (p : Plan) (lent : List ℕ) (wf : WellFormed p) (room : most_bytes ≤ length lent) (r : Result ℕ Refusal)
+    (left : List ℕ) (by : SearchedBy P p lent r left) (n : ℕ) (e : r ≡ Ok n) where
   abbrev pub tree : List ℕ
   tree = first_nodes left n
 

@@ -1,4 +1,5 @@
 -- Theorem: demand 3 holds of this planner. Read the statement in specs/Demand3.antt; only the checker need believe the proof.
+use Rattle.std.specs.Prelude.{Result, Ok}
 use mathlib.Core.Path.{◌≡◌, refl, sym, ap, ◌∙◌, subst}
 use mathlib.Core.Logic.{◌↔◌, by_cases}
 use mathlib.Core.List.{List}
@@ -20,14 +21,13 @@ use Rattle.network.proofs.Theorems.{consistent_exactly, consistent_decided, no_p
 use Rattle.network.proofs.Theorems as theorems
 use Rattle.plan.specs.declared.Plan.{Plan}
 use Rattle.plan.specs.declared.Refusal.TheVariants as refusal
+use Rattle.plan.specs.declared.Refusal.{Refusal}
 use Rattle.plan.specs.Plan.{network_of}
 use Rattle.plan.specs.WellFormed.{WellFormed}
 use Rattle.plan.proofs.PlanTheorems.{is_network}
 use Rattle.tree.specs.Nodes.{most_bytes, first_nodes, overwritten}
 use Rattle.tree.specs.Trees.{tree_bytes, Describes}
 use Rattle.tree.proofs.TreeLaws.{tree_length}
-use Rattle.search.specs.declared.Searched.{Searched}
-use Rattle.search.specs.declared.Searched.TheVariants as searched
 use Rattle.search.specs.Search.{search_fault, search_answer, search_leaves}
 use Rattle.search.proofs.AnswerLaws.{answered_so}
 use Rattle.search.proofs.SearchTheorems.{first_moves, only_bytes, count_nodes, leaves_tree, front_is_tree, checker_yes}
@@ -90,7 +90,7 @@ module _ (p : Plan) (lent : List ℕ) (wf : WellFormed p) (room : most_bytes ≤
 
   -- ---- what was handed back
 
-  module _ (r : Searched) (left : List ℕ) (by : SearchedBy planner p lent r left) where
+  module _ (r : Result ℕ Refusal) (left : List ℕ) (by : SearchedBy planner p lent r left) where
     hopeless_so : Hopeless r ↔ (¬ DynamicallyConsistent net)
     hopeless_so =
         let said = says_refused_exactly p lent r by.answer refusal.Hopeless in
@@ -101,11 +101,11 @@ module _ (p : Plan) (lent : List ℕ) (wf : WellFormed p) (room : most_bytes ≤
     no_fault n =
         by_cases (consistent_decided net is_net) (fine_exactly p lent wf room).1 (λ none. absurd (n (hopeless_so.1 none)))
 
-    nodes_fault : (n : ℕ) → r ≡ searched.Nodes n → search_fault p lent ≡ 0
+    nodes_fault : (n : ℕ) → r ≡ Ok n → search_fault p lent ≡ 0
     nodes_fault n e = (fine_exactly p lent wf room).1 ((says_nodes_exactly p lent r by.answer n).0 e).3
 
     -- the tree that the search made, by its number and its bytes
-    made_is : (n : ℕ) (e : r ≡ searched.Nodes n) → bytes (nodes_fault n e) ≡ first_nodes left n
+    made_is : (n : ℕ) (e : r ≡ Ok n) → bytes (nodes_fault n e) ≡ first_nodes left n
     made_is n e =
         let none = nodes_fault n e in
         let count = ((says_nodes_exactly p lent r by.answer n).0 e).0 in
@@ -114,7 +114,7 @@ module _ (p : Plan) (lent : List ℕ) (wf : WellFormed p) (room : most_bytes ≤
 
     gets_so :
         ¬ Hopeless r → (t : Tree) → FirstMoves net t (start net) →
-        (r ≡ searched.Nodes (length (preorder net t))) × (left ≡ overwritten (tree_bytes net t) lent)
+        (r ≡ Ok (length (preorder net t))) × (left ≡ overwritten (tree_bytes net t) lent)
     gets_so h t f =
         let none = no_fault h in (
           (says_nodes_exactly p lent r by.answer (length (preorder net t))).1

@@ -1,17 +1,15 @@
 -- Theorem: the verdict and the screen of this planner say what document 01 asks. Read the statement in specs/FixedOutcomes.antt; only the
 -- checker need believe the proof.
 use mathlib.Core.Path.{◌≡◌, refl, sym}
+use mathlib.Core.Bool.{Bool, true, false}
 use mathlib.Core.List.{[], ◌∷◌}
+use Rattle.std.specs.Prelude.{Some, None, Result, Ok, Err}
 use Prim.Native.Nat.{ℕ}
 use lib.Dec.{eqb}
-use lib.ListN.{replicate}
 use Rattle.network.proofs.Booleans.{by_test, eqb_is, differs}
 use Rattle.plan.specs.declared.Plan.{Plan}
-use Rattle.verdict.specs.declared.Found.TheVariants as found
-use Rattle.verdict.specs.declared.Verdict.{Verdict}
-use Rattle.verdict.specs.declared.screen.Screened.{Screened}
-use Rattle.verdict.specs.declared.screen.Screened.TheVariants as screen
-use Rattle.verdict.specs.Answers.{verdict_answer, screen_answer}
+use Rattle.plan.specs.declared.Refusal.{Refusal}
+use Rattle.verdict.specs.Answers.{Verdict, verdict_answer, screen_answer}
 use Rattle.verdict.specs.Verdict.{least_schedule, screened}
 use Rattle.verdict.proofs.VerdictTheorems.{says, one_verdict, passed_exactly, failed_exactly}
 use Rattle.demands.specs.ThisPlanner.{planner}
@@ -30,33 +28,33 @@ verdict_said p m =
     (λ y. let fine = sym (eqb_is a.fault 0 y) in
     by_test a.value.scheduled
     (λ t. (
-      record { found = found.Least; slots = a.value.slots },
+      Ok (Some a.value.slots),
       λ i. record { fault = fine i; value = record { scheduled = sym t i; slots = a.value.slots } },
     ))
     (λ f. (
-      record { found = found.Nothing; slots = a.value.slots },
-      λ i. record { fault = fine i; value = record { scheduled = sym f i; slots = a.value.slots } },
+      Ok None,
+      λ i. record { fault = fine i; value = record { scheduled = sym f i; slots = sym (so.zeros f) i } },
     )))
     (λ z. let some = differs a.fault 0 z in
     let one : OneOf (0 ∷ 2 ∷ 3 ∷ 4 ∷ 8 ∷ []) a.fault =
     by_plan p (λ wf. one_of_more _ _ _ refl (so.numbers wf)) (λ n h. one_of_more _ _ _ refl (so.judged n).numbers) in
     let (r, is) = some_refusal a.fault (one_of_more _ _ _ refl one) some in
     let none = sym (so.refused some) in
-    (record { found = found.Refused r; slots = replicate 8 0 }, λ i. record { fault = is i; value = none i }))
+    (Err r, λ i. record { fault = is i; value = none i }))
 
-screen_said : (p : Plan) → (r : Screened) × (screen_answer r ≡ screened p)
+screen_said : (p : Plan) → (r : Result Bool Refusal) × (screen_answer r ≡ screened p)
 screen_said p =
     let a = screened p in
     let so = demand1.screen p in
     by_test (eqb a.fault 0)
     (λ y. let fine = sym (eqb_is a.fault 0 y) in
     by_test a.value
-    (λ t. (screen.Passed, λ i. record { fault = fine i; value = sym t i }))
-    (λ f. (screen.Failed, λ i. record { fault = fine i; value = sym f i })))
+    (λ t. (Ok true, λ i. record { fault = fine i; value = sym t i }))
+    (λ f. (Ok false, λ i. record { fault = fine i; value = sym f i })))
     (λ z. let some = differs a.fault 0 z in
     let (r, is) = some_refusal a.fault (one_of_more _ _ _ refl so.judged.numbers) some in
     let none = sym (so.beside some) in
-    (screen.Refused r, λ i. record { fault = is i; value = none i }))
+    (Err r, λ i. record { fault = is i; value = none i }))
 
 -- ---- The theorem
 

@@ -2,12 +2,12 @@
 -- need believe the proof.
 use mathlib.Core.Path.{◌≡◌, refl, sym, ap, ◌∙◌}
 use mathlib.Core.Logic.{◌↔◌}
-use mathlib.Core.List.{List, [], ◌∷◌}
+use mathlib.Core.Bool.{Bool, true, false}
+use mathlib.Core.List.{[], ◌∷◌}
+use Rattle.std.specs.Prelude.{Option, Some, None, Result, Ok, Err}
 use Prim.Native.Nat.{ℕ, ◌^◌, ◌<◌}
-use native.Mathlib.Omega.{arith}
 use lib.Dec.{eqb, ltb}
 use lib.IntN.{negsuc}
-use lib.ListN.{replicate}
 use lib.Signed.{◌≤ℤ◌}
 use Rattle.network.specs.Mask.{bit}
 use Rattle.network.specs.Fixed.{Setting, Schedulable}
@@ -25,18 +25,12 @@ use Rattle.plan.proofs.AnswerLaws.{unless_is, first_none}
 use Rattle.plan.proofs.RefusalLaws.{refusal_one_number, no_refusal}
 use Rattle.judge.specs.Judge.{plan_fault}
 use Rattle.judge.proofs.JudgeTheorems.{fine_exactly}
-use Rattle.verdict.specs.declared.Found.{Found}
-use Rattle.verdict.specs.declared.Found.TheVariants as found
-use Rattle.verdict.specs.declared.Verdict.{Verdict}
-use Rattle.verdict.specs.Answers.{Fixed, saying, verdict_answer}
+use Rattle.verdict.specs.Answers.{Fixed, Verdict, verdict_answer}
 use Rattle.verdict.specs.Verdict.{verdict_of, verdict_fault, least_schedule}
 use Rattle.verdict.proofs.AnswerLaws as verdict
 use Rattle.verdict.proofs.VerdictTheorems as fixed
-use Rattle.differences.specs.declared.Row.{Row}
-use Rattle.differences.specs.declared.Tabled.{Tabled}
-use Rattle.differences.specs.declared.Tabled.TheVariants as tabled
 use Rattle.differences.specs.declared.DifferenceTable.{DifferenceTable}
-use Rattle.differences.specs.Answers.{Differences, zero_row, tabling, table_answer}
+use Rattle.differences.specs.Answers.{Differences, table_answer, rows_of}
 use Rattle.differences.specs.Says.{entry, Tells, Says}
 use Rattle.differences.specs.Tabling.{table_of, table_fault, difference_table}
 use Rattle.differences.proofs.AnswerLaws as table
@@ -49,7 +43,7 @@ use Rattle.demands.proofs.Demand1Theorem.{demand1}
 
 -- ---- something is handed back
 
-table_said : (p : Plan) (m : ℕ) → (t : DifferenceTable) × (table_answer t ≡ difference_table p m)
+table_said : (p : Plan) (m : ℕ) → (t : Result (Option DifferenceTable) Refusal) × (table_answer t ≡ difference_table p m)
 table_said p m =
     let a = difference_table p m in
     let so = demand1.differences p m in
@@ -57,54 +51,66 @@ table_said p m =
     (λ y. let fine = sym (eqb_is a.fault 0 y) in
     by_test a.value.scheduled
     (λ s. (
-      record { tabled = tabled.Table; rows = a.value.rows },
+      Ok (Some (record { rows = a.value.rows })),
       λ i. record { fault = fine i; value = record { scheduled = sym s i; rows = a.value.rows } },
     ))
     (λ n. (
-      record { tabled = tabled.Nothing; rows = a.value.rows },
-      λ i. record { fault = fine i; value = record { scheduled = sym n i; rows = a.value.rows } },
+      Ok None,
+      λ i. record { fault = fine i; value = record { scheduled = sym n i; rows = sym (so.zeros n) i } },
     )))
     (λ z. let some = differs a.fault 0 z in
     let one : OneOf (0 ∷ 2 ∷ 3 ∷ 4 ∷ 8 ∷ []) a.fault =
     by_plan p (λ wf. one_of_more _ _ _ refl (so.numbers wf)) (λ n h. one_of_more _ _ _ refl (so.judged n).numbers) in
     let (r, is) = some_refusal a.fault (one_of_more _ _ _ refl one) some in
     let none = sym (so.refused some) in
-    (record { tabled = tabled.Refused r; rows = replicate 8 zero_row }, λ i. record { fault = is i; value = none i }))
+    (Err r, λ i. record { fault = is i; value = none i }))
 
 -- ---- the forced order
 
-tells_of : (p : Plan) (m : ℕ) (f : Tabled) (rows : List Row) → Says p m f rows → Schedulable (network_of p) (bit m) → Tells (network_of p) (bit m) rows
-tells_of p m tabled.Table rows t some = t
-tells_of p m tabled.Nothing rows t some = absurd (t.0 some)
-tells_of p m (tabled.Refused r) rows t some = absurd t
+tells_of :
+    (p : Plan) (m : ℕ) (t : Result (Option DifferenceTable) Refusal) → Says p m t → Schedulable (network_of p) (bit m) →
+    Tells (network_of p) (bit m) (rows_of t)
+tells_of p m (Ok (Some t)) says some = says
+tells_of p m (Ok None) says some = absurd (says.0 some)
+tells_of p m (Err r) says some = absurd says
 
 forced_so :
-    (p : Plan) (m : ℕ) (t : DifferenceTable) → table_answer t ≡ difference_table p m → WellFormed p → Setting (network_of p) m →
+    (p : Plan) (m : ℕ) (t : Result (Option DifferenceTable) Refusal) → table_answer t ≡ difference_table p m → WellFormed p → Setting (network_of p) m →
     Schedulable (network_of p) (bit m) → (x y : ℕ) → x < p.points → y < p.points →
-    ForcedBefore (network_of p) (bit m) x y ↔ (entry t.rows y x ≤ℤ negsuc 0)
+    ForcedBefore (network_of p) (bit m) x y ↔ (entry (rows_of t) y x ≤ℤ negsuc 0)
 forced_so p m t so wf setting some =
-    before_exactly (network_of p) (bit m) t.rows (tells_of p m t.tabled t.rows (says p m t so wf setting) some)
+    before_exactly (network_of p) (bit m) (rows_of t) (tells_of p m t (says p m t so wf setting) some)
 
 -- ---- as the verdict
 
--- the same case
-abbrev tabled_as : Found → Tabled
-tabled_as found.Least = tabled.Table
-tabled_as found.Nothing = tabled.Nothing
-tabled_as (found.Refused r) = tabled.Refused r
+-- whether there is something, or the refusal
+abbrev case_of : {A : Type 0} → Result (Option A) Refusal → Result Bool Refusal
+case_of (Ok (Some a)) = Ok true
+case_of (Ok None) = Ok false
+case_of (Err r) = Err r
+
+none_back : {A : Type 0} (x : Result (Option A) Refusal) → case_of x ≡ Ok false → x ≡ Ok None
+none_back (Ok (Some a)) e = cc
+none_back (Ok None) e = refl
+none_back (Err r) e = cc
+
+refused_back : {A : Type 0} (r : Refusal) (x : Result (Option A) Refusal) → case_of x ≡ Err r → x ≡ Err r
+refused_back r (Ok (Some a)) e = cc
+refused_back r (Ok None) e = cc
+refused_back r (Err q) e = ap Err cc
 
 same_case :
-    (f : Tabled) (g : Found) (rows : List Row) (slots : List ℕ) → (tabling f rows).fault ≡ (saying g slots).fault →
-    ((tabling f rows).fault ≡ 0 → (tabling f rows).value.scheduled ≡ (saying g slots).value.scheduled) → f ≡ tabled_as g
-same_case tabled.Table found.Least rows slots e s = refl
-same_case tabled.Table found.Nothing rows slots e s = clash refl (s refl)
-same_case tabled.Table (found.Refused r) rows slots e s = absurd (no_refusal r (sym e))
-same_case tabled.Nothing found.Least rows slots e s = clash refl (sym (s refl))
-same_case tabled.Nothing found.Nothing rows slots e s = refl
-same_case tabled.Nothing (found.Refused r) rows slots e s = absurd (no_refusal r (sym e))
-same_case (tabled.Refused q) found.Least rows slots e s = absurd (no_refusal q e)
-same_case (tabled.Refused q) found.Nothing rows slots e s = absurd (no_refusal q e)
-same_case (tabled.Refused q) (found.Refused r) rows slots e s = ap tabled.Refused (refusal_one_number q r e)
+    (t : Result (Option DifferenceTable) Refusal) (v : Verdict) → (table_answer t).fault ≡ (verdict_answer v).fault →
+    ((table_answer t).fault ≡ 0 → (table_answer t).value.scheduled ≡ (verdict_answer v).value.scheduled) → case_of t ≡ case_of v
+same_case (Ok (Some t)) (Ok (Some slots)) e s = refl
+same_case (Ok (Some t)) (Ok None) e s = clash refl (s refl)
+same_case (Ok (Some t)) (Err r) e s = absurd (no_refusal r (sym e))
+same_case (Ok None) (Ok (Some slots)) e s = clash refl (sym (s refl))
+same_case (Ok None) (Ok None) e s = refl
+same_case (Ok None) (Err r) e s = absurd (no_refusal r (sym e))
+same_case (Err q) (Ok (Some slots)) e s = absurd (no_refusal q e)
+same_case (Err q) (Ok None) e s = absurd (no_refusal q e)
+same_case (Err q) (Err r) e s = ap Err (refusal_one_number q r e)
 
 -- no fault: a well-formed plan, and a setting
 fine_so : (p : Plan) (m : ℕ) → table_fault p m ≡ 0 → WellFormed p × Setting (network_of p) m
@@ -134,33 +140,23 @@ pub fine_fault : (p : Plan) (m : ℕ) → (difference_table p m).fault ≡ 0 →
 fine_fault p m e = fine_so p m (sym (fault_is p m) ∙ e)
 
 module _
-    (p : Plan) (m : ℕ) (t : DifferenceTable) (v : Verdict) (so : table_answer t ≡ difference_table p m) (said : verdict_answer v ≡ least_schedule p m)
+    (p : Plan) (m : ℕ) (t : Result (Option DifferenceTable) Refusal) (v : Verdict) (so : table_answer t ≡ difference_table p m) (said : verdict_answer v ≡ least_schedule p m)
   where
-    as_found : t.tabled ≡ tabled_as v.found
-    as_found =
+    as_verdict : case_of t ≡ case_of v
+    as_verdict =
         let fault = ap (λ (x : Answer Differences). x.fault) so in
-        same_case t.tabled v.found t.rows v.slots
+        same_case t v
         (fault ∙ same_fault p m ∙ sym (ap (λ (x : Answer Fixed). x.fault) said))
         (λ e.
         ap (λ (x : Answer Differences). x.value.scheduled) so
         ∙ same_schedule p m (sym (fault_is p m) ∙ sym fault ∙ e)
         ∙ sym (ap (λ (x : Answer Fixed). x.value.scheduled) said))
 
-    none_so : (t.tabled ≡ tabled.Nothing) ↔ (v.found ≡ found.Nothing)
-    none_so = (λ e. back v.found (sym as_found ∙ e), λ e. as_found ∙ ap tabled_as e)
-      where
-        back : (g : Found) → tabled_as g ≡ tabled.Nothing → g ≡ found.Nothing
-        back found.Least e = let z : ◌≡◌ {A = ℕ} 0 1 = cc in absurd (omega arith)
-        back found.Nothing e = refl
-        back (found.Refused r) e = let z : ◌≡◌ {A = ℕ} 0 1 = cc in absurd (omega arith)
+    none_so : (t ≡ Ok None) ↔ (v ≡ Ok None)
+    none_so = (λ e. none_back v (sym as_verdict ∙ ap case_of e), λ e. none_back t (as_verdict ∙ ap case_of e))
 
-    refused_so : (r : Refusal) → (t.tabled ≡ tabled.Refused r) ↔ (v.found ≡ found.Refused r)
-    refused_so r = (λ e. back v.found (sym as_found ∙ e), λ e. as_found ∙ ap tabled_as e)
-      where
-        back : (g : Found) → tabled_as g ≡ tabled.Refused r → g ≡ found.Refused r
-        back found.Least e = let z : ◌≡◌ {A = ℕ} 0 1 = cc in absurd (omega arith)
-        back found.Nothing e = let z : ◌≡◌ {A = ℕ} 0 1 = cc in absurd (omega arith)
-        back (found.Refused q) e = ap found.Refused cc
+    refused_so : (r : Refusal) → (t ≡ Err r) ↔ (v ≡ Err r)
+    refused_so r = (λ e. refused_back r v (sym as_verdict ∙ ap case_of e), λ e. refused_back r t (as_verdict ∙ ap case_of e))
 
 -- ---- The theorem
 

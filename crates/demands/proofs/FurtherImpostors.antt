@@ -10,6 +10,7 @@ use lib.Dec.{eqb}
 use lib.IntN.{ℤ, pos, negsuc}
 use lib.ListN.{length, replicate}
 use lib.Signed.{◌≤ℤ◌}
+use Rattle.std.specs.Prelude.{Some, None, Ok}
 use Rattle.network.specs.Mask.{bit, join_below}
 use Rattle.network.specs.Fixed.{ScheduleFor, Setting, Schedulable}
 use Rattle.network.proofs.Booleans.{clash}
@@ -29,11 +30,9 @@ use Rattle.plan_text.specs.PlanText.{plan_text}
 use Rattle.plan_text.specs.WritePlan.{write_plan, write_plan_leaves}
 use Rattle.plan_text.specs.ReadPlan.{read_head, read_plan}
 use Rattle.search.proofs.Cases.{computing}
-use Rattle.verdict.specs.declared.Found.TheVariants as found
 use Rattle.verdict.specs.Answers.{none}
 use Rattle.differences.specs.declared.Row.{Row}
-use Rattle.differences.specs.declared.Tabled.TheVariants as tabled
-use Rattle.differences.specs.Answers.{Differences, zero_row, no_table}
+use Rattle.differences.specs.Answers.{Differences, no_table}
 use Rattle.differences.specs.Says.{bits_at}
 use Rattle.differences.specs.Tabling.{difference_table}
 use Rattle.differences.proofs.Cases.{k1_to_k5, entries_are}
@@ -132,7 +131,7 @@ k1_schedule = record { slots = λ x. 0; schedule = record { within = λ x lt. om
 
 pub always_none_fails : ¬ FixedOutcomes always_none
 always_none_fails d =
-    (d.verdict k1 0 (record { found = found.Nothing; slots = replicate 8 0 }) refl both_fine.0 k1_setting).0 k1_schedule
+    d.verdict k1 0 (Ok None) refl both_fine.0 k1_setting k1_schedule
 
 -- ---- A table of "none" without looking. It contradicts the table where there is a schedule: K1 has one.
 
@@ -141,7 +140,7 @@ always_no_table = tabulating (λ p m. fine no_table)
 
 pub always_no_table_fails : ¬ ForcedOrder always_no_table
 always_no_table_fails d =
-    (d.table k1 0 (record { tabled = tabled.Nothing; rows = replicate 8 zero_row }) refl both_fine.0 k1_setting).0 k1_schedule
+    (d.table k1 0 (Ok None) refl both_fine.0 k1_setting).0 k1_schedule
 
 -- ---- A table with rows and columns exchanged. At row 0, column 1 of K4 where letter 0 is false it has -2, and in the schedule with point 0 in
 -- slot 0 and point 1 in slot 2 the difference is 2.
@@ -176,7 +175,7 @@ transposed_fails d =
     let fault : 0 ≡ a.fault = sym (ap (λ (x : Answer Differences). x.fault) k1_to_k5.3) in
     let some : true ≡ a.value.scheduled = sym (ap (λ (x : Answer Differences). x.value.scheduled) k1_to_k5.3) in
     let rows = exchanged a.value.rows in
-    let tells = d.table k4 0 (record { tabled = tabled.Table; rows = rows })
+    let tells = d.table k4 0 (Ok (Some (record { rows = rows })))
     (λ i. record { fault = fault i; value = record { scheduled = some i; rows = rows } }) k4_fine k4_setting in
     let two = (tells.largest 0 1 (omega arith) (omega arith)).bounds two_later k4_schedule in
     let not-two : pos 2 ≤ℤ negsuc 1 = subst (λ (z : ℤ). pos 2 ≤ℤ z) entries_are.0 two in

@@ -1,5 +1,6 @@
 -- Impostors: planners that document 01 won't take, and more. None meets demand 3; a comment says which part of it each one breaks. Read
 -- the planners and the statements; only the checker need believe the proofs.
+use Rattle.std.specs.Prelude.{Result, Ok, Err}
 use mathlib.Core.Path.{◌≡◌, refl, sym, ap, ◌∙◌, subst}
 use mathlib.Core.Logic.{inl, inr}
 use mathlib.Core.List.{List, [], ◌∷◌}
@@ -19,7 +20,6 @@ use Rattle.network.proofs.Booleans.{clash, and_left, ltb_is}
 use Rattle.plan.specs.declared.Plan.{Plan}
 use Rattle.plan.specs.declared.Refusal.{Refusal}
 use Rattle.plan.specs.declared.Refusal.TheVariants as refusal
-use Rattle.plan.specs.declared.Judged.TheVariants as judged
 use Rattle.plan.specs.Refusal.{refusal_number}
 use Rattle.plan.specs.Answer.{Answer, fine}
 use Rattle.plan.specs.Faults.{unless, first}
@@ -33,8 +33,6 @@ use Rattle.judge.proofs.WellFormedLaws as judge
 use Rattle.tree.specs.Nodes.{most_bytes, first_nodes, overwritten}
 use Rattle.tree.specs.Trees.{tree_bytes}
 use Rattle.checker.proofs.Cases.{never}
-use Rattle.search.specs.declared.Searched.{Searched}
-use Rattle.search.specs.declared.Searched.TheVariants as searched
 use Rattle.search.specs.Searched.{searched_answer}
 use Rattle.search.specs.Search.{search_fault, search_answer, search_leaves}
 use Rattle.search.proofs.SearchTheorems.{first_moves, fine_exactly}
@@ -75,8 +73,8 @@ module _ (P : Planner) (d : Demand3 P) (p : Plan) (wf : WellFormed p) (n : ℕ) 
   abbrev made : List ℕ
   made = first_nodes (P.leaves p lent) n
 
-  got_tree : Demand3For P.run p lent (searched.Nodes n) (P.leaves p lent)
-  got_tree = (d p lent wf room).1 (searched.Nodes n) (P.leaves p lent) (record { answer = sym got; buffer = refl })
+  got_tree : Demand3For P.run p lent (Ok n) (P.leaves p lent)
+  got_tree = (d p lent wf room).1 (Ok n) (P.leaves p lent) (record { answer = sym got; buffer = refl })
 
   said : AlwaysAnswers P.run p made
   said = got_tree.always_answers n refl
@@ -129,7 +127,7 @@ always_hopeless = searching (λ p xs. record { fault = no_hope p xs; value = 0 }
 pub always_hopeless_fails : ¬ Demand3 always_hopeless
 unfolding computing
 always_hopeless_fails d =
-    ((d k1 lent k1_fine room).1 (searched.Refused refusal.Hopeless) (overwritten [] lent) (record { answer = refl; buffer = refl })
+    ((d k1 lent k1_fine room).1 (Err refusal.Hopeless) (overwritten [] lent) (record { answer = refl; buffer = refl })
     ).hopeless_exactly.0 refl k1_consistent
 
 -- .. with a number of nodes beside it, which no answer has: then nothing is handed back of which part 1 could be said, and that is asked.
@@ -137,9 +135,9 @@ always_hopeless_fails d =
 abbrev pub hopeless_with_nodes : Planner
 hopeless_with_nodes = searching (λ p xs. record { fault = no_hope p xs; value = 1 }) zeros_under11 the_run
 
-no_such_answer : (r : Searched) → ¬ (searched_answer r ≡ record { fault = 11; value = 1 })
-no_such_answer (searched.Nodes n) e = let z : ◌≡◌ {A = ℕ} 0 11 = ap (λ (a : Answer ℕ). a.fault) e in omega arith
-no_such_answer (searched.Refused r) e = let z : ◌≡◌ {A = ℕ} 0 1 = ap (λ (a : Answer ℕ). a.value) e in omega arith
+no_such_answer : (r : Result ℕ Refusal) → ¬ (searched_answer r ≡ record { fault = 11; value = 1 })
+no_such_answer (Ok n) e = let z : ◌≡◌ {A = ℕ} 0 11 = ap (λ (a : Answer ℕ). a.fault) e in omega arith
+no_such_answer (Err r) e = let z : ◌≡◌ {A = ℕ} 0 1 = ap (λ (a : Answer ℕ). a.value) e in omega arith
 
 pub hopeless_with_nodes_fails : ¬ Demand3 hopeless_with_nodes
 unfolding computing
@@ -153,7 +151,7 @@ before_looking =
 
 pub before_looking_fails : ¬ Demand3 before_looking
 before_looking_fails d =
-    ((d k1 lent k1_fine room).1 (searched.Refused refusal.Hopeless) (overwritten [] lent) (record { answer = refl; buffer = refl })
+    ((d k1 lent k1_fine room).1 (Err refusal.Hopeless) (overwritten [] lent) (record { answer = refl; buffer = refl })
     ).hopeless_exactly.0 refl k1_consistent
 
 -- ---- A search that leaves the buffer alone. It breaks part 3: the bytes are not those of K1's tree.
@@ -161,7 +159,7 @@ before_looking_fails d =
 abbrev pub buffer_alone : Planner
 buffer_alone = searching search_answer (λ p xs. xs) the_run
 
-not_hopeless : (n : ℕ) → ¬ Hopeless (searched.Nodes n)
+not_hopeless : (n : ℕ) → ¬ Hopeless (Ok n)
 not_hopeless n e = let z : ◌≡◌ {A = ℕ} 0 1 = cc in omega arith
 
 pub buffer_alone_fails : ¬ Demand3 buffer_alone
@@ -431,8 +429,8 @@ accepts_after_done = running after_done
 -- two reports over K1's tree, the second one after done
 abbrev twice : List Made
 twice =
-    reported 0 (shown.Instruct (record { slot = 0; points = 1; choices = 0 })) (record { answer = judged.Fine; history = history_of (0 ∷ []) })
-    ∷ reported 0 shown.Done (record { answer = judged.Fine; history = history_of (0 ∷ []) }) ∷ []
+    reported 0 (shown.Instruct (record { slot = 0; points = 1; choices = 0 })) (record { answer = Ok tt; history = history_of (0 ∷ []) })
+    ∷ reported 0 shown.Done (record { answer = Ok tt; history = history_of (0 ∷ []) }) ∷ []
 
 twice_crew : Crew after_done k1 k1_bytes
 unfolding calling Answered held_after

@@ -1,5 +1,6 @@
 -- Laws: calls that were made, with what they handed back, and lists of calls whose answers are functions: what holds of every list holds of
 -- every crew. Only the checker need believe this file.
+use Rattle.std.specs.Prelude.{Result, Ok, Err}
 use mathlib.Core.Path.{◌≡◌, refl, sym, ap, ◌∙◌, subst}
 use mathlib.Core.List.{List, [], ◌∷◌, ◌++◌, map, append_assoc, append-nil}
 use Prim.Native.Nat.{ℕ}
@@ -7,8 +8,7 @@ use native.Mathlib.Omega.{arith}
 use Rattle.network.specs.Game.{Move, Outcome}
 use Rattle.network.specs.Crew.{Step}
 use Rattle.plan.specs.declared.Plan.{Plan}
-use Rattle.plan.specs.declared.Judged.{Judged}
-use Rattle.plan.specs.declared.Judged.TheVariants as judged
+use Rattle.plan.specs.declared.Refusal.{Refusal}
 use Rattle.plan.specs.Refusal.{refusal_number, judged_number}
 use Rattle.plan.specs.Answer.{Answer}
 use Rattle.plan.specs.Plan.{network_of}
@@ -37,23 +37,23 @@ says_done (shown.Refused k) e = let z : ◌≡◌ {A = ℕ} 0 1 = cc in absurd (
 instructs_one : {m k : Move} → instruct m ≡ instruct k → m ≡ k
 instructs_one e = cc
 
-followed_is : (s : Shown) (o : ℕ) (j : Judged) → followed_by s o j ≡ steps_of (shown_told s) o (judged_number j)
+followed_is : (s : Shown) (o : ℕ) (j : Result (Unit {0}) Refusal) → followed_by s o j ≡ steps_of (shown_told s) o (judged_number j)
 unfolding steps_of
-followed_is (shown.Instruct v) o judged.Fine = refl
-followed_is (shown.Instruct v) o (judged.Refused r) = sym (no_step_refused (instruct (instructed v)) o (refusal_number r) (no_refusal r))
+followed_is (shown.Instruct v) o (Ok tt) = refl
+followed_is (shown.Instruct v) o (Err r) = sym (no_step_refused (instruct (instructed v)) o (refusal_number r) (no_refusal r))
 followed_is shown.Done o j = refl
 followed_is (shown.Refused r) o j = refl
 
 -- a report that is accepted only where an instruction is told follows it
 pub one_follows :
-    (s : Shown) (o : ℕ) (j : Judged) → (j ≡ judged.Fine → (m : Move) × (shown_told s ≡ instruct m)) →
+    (s : Shown) (o : ℕ) (j : Result (Unit {0}) Refusal) → (j ≡ Ok tt → (m : Move) × (shown_told s ≡ instruct m)) →
     accepted_by o j ≡ map (λ (st : Step). st.report) (followed_by s o j)
-one_follows (shown.Instruct v) o judged.Fine told = refl
-one_follows (shown.Instruct v) o (judged.Refused r) told = refl
-one_follows shown.Done o judged.Fine told = done_is_not (told refl).1
-one_follows shown.Done o (judged.Refused r) told = refl
-one_follows (shown.Refused k) o judged.Fine told = refused_is_not (told refl).1
-one_follows (shown.Refused k) o (judged.Refused r) told = refl
+one_follows (shown.Instruct v) o (Ok tt) told = refl
+one_follows (shown.Instruct v) o (Err r) told = refl
+one_follows shown.Done o (Ok tt) told = done_is_not (told refl).1
+one_follows shown.Done o (Err r) told = refl
+one_follows (shown.Refused k) o (Ok tt) told = refused_is_not (told refl).1
+one_follows (shown.Refused k) o (Err r) told = refl
 
 -- ---- the calls that were made
 

@@ -1,5 +1,6 @@
 -- Laws: what a planner answers is something that its calls can hand back, so that there are crews to every list of calls, and what holds of
 -- every crew holds of every list. Only the checker need believe this file.
+use Rattle.std.specs.Prelude.{Result, Ok, Err}
 use mathlib.Core.Path.{◌≡◌, refl, sym, ap, ◌∙◌, subst}
 use mathlib.Core.Logic.{inl, inr}
 use mathlib.Core.List.{List, [], ◌∷◌, ◌++◌, map, map-append}
@@ -9,13 +10,9 @@ use Rattle.network.specs.Crew.{Step}
 use Rattle.plan.specs.declared.Plan.{Plan}
 use Rattle.plan.specs.declared.Refusal.{Refusal}
 use Rattle.plan.specs.declared.Refusal.TheVariants as refusal
-use Rattle.plan.specs.declared.Judged.{Judged}
-use Rattle.plan.specs.declared.Judged.TheVariants as judged
 use Rattle.plan.specs.Refusal.{refusal_number, judged_number}
 use Rattle.plan.specs.Answer.{Answer}
 use Rattle.plan.proofs.RefusalLaws.{fine_is}
-use Rattle.search.specs.declared.Searched.{Searched}
-use Rattle.search.specs.declared.Searched.TheVariants as searched
 use Rattle.search.specs.Search.{search_answer}
 use Rattle.search.specs.Searched.{searched_answer}
 use Rattle.search.proofs.SearchTheorems.{fault_is, refused_zero}
@@ -38,10 +35,10 @@ use Rattle.demands.proofs.MadeLaws.{one_follows, call_made, calls_of, history_is
 
 -- ---- numbers that are said
 
-judged_said : (n : ℕ) → OneOf (0 ∷ crew_numbers) n → (j : Judged) × (judged_number j ≡ n)
+judged_said : (n : ℕ) → OneOf (0 ∷ crew_numbers) n → (j : Result (Unit {0}) Refusal) × (judged_number j ≡ n)
 unfolding OneOf
-judged_said n (inl e) = (judged.Fine, sym e)
-judged_said n (inr h) = let (r, e) = refusal_said n h in (judged.Refused r, e)
+judged_said n (inl e) = ((Ok tt), sym e)
+judged_said n (inr h) = let (r, e) = refusal_said n h in (Err r, e)
 
 pub told_said : (x : Told) → Numbered x → (s : Shown) × (shown_told s ≡ x)
 told_said (instruct m) h = (shown.Instruct (record { slot = m.slot; points = m.points; choices = m.choices }), refl)
@@ -55,20 +52,20 @@ reported_said x h =
 
 -- ---- the search
 
-pub search_said : (p : Plan) (xs : List ℕ) → (r : Searched) × (searched_answer r ≡ search_answer p xs)
+pub search_said : (p : Plan) (xs : List ℕ) → (r : Result ℕ Refusal) × (searched_answer r ≡ search_answer p xs)
 unfolding OneOf
 search_said p xs = go (search_one p xs)
   where
     number : ℕ
     number = (search_answer p xs).fault
 
-    refused : (r : Refusal) → number ≡ refusal_number r → ¬ (refusal_number r ≡ 0) → (r : Searched) × (searched_answer r ≡ search_answer p xs)
+    refused : (r : Refusal) → number ≡ refusal_number r → ¬ (refusal_number r ≡ 0) → (r : Result ℕ Refusal) × (searched_answer r ≡ search_answer p xs)
     refused r e some =
         let zero = refused_zero p xs (λ f. some (sym e ∙ fault_is p xs ∙ f)) in
-        (searched.Refused r, λ i. record { fault = sym e i; value = sym zero i })
+        (Err r, λ i. record { fault = sym e i; value = sym zero i })
 
-    go : OneOf (0 ∷ 2 ∷ 3 ∷ 4 ∷ 10 ∷ 11 ∷ []) number → (r : Searched) × (searched_answer r ≡ search_answer p xs)
-    go (inl e) = (searched.Nodes (search_answer p xs).value, λ i. record { fault = sym e i; value = (search_answer p xs).value })
+    go : OneOf (0 ∷ 2 ∷ 3 ∷ 4 ∷ 10 ∷ 11 ∷ []) number → (r : Result ℕ Refusal) × (searched_answer r ≡ search_answer p xs)
+    go (inl e) = (Ok (search_answer p xs).value, λ i. record { fault = sym e i; value = (search_answer p xs).value })
     go (inr (inl e)) = refused refusal.Head e (λ z. omega arith)
     go (inr (inr (inl e))) = refused refusal.Letters e (λ z. omega arith)
     go (inr (inr (inr (inl e)))) = refused refusal.Constraints e (λ z. omega arith)
@@ -155,7 +152,7 @@ module _ (R : Run) (p : Plan) (tree : List ℕ) (all : AlwaysAnswers R p tree) w
         = λ o. ap (λ (x : Answer History). x.fault) (all.reports h o).1 in
         let value : (o : ℕ) → (all.reports h o).0.history ≡ (R.reports p tree h o).value
         = λ o. ap (λ (x : Answer History). x.value) (all.reports h o).1 in
-        let fine : (o : ℕ) → (R.reports p tree h o).fault ≡ 0 → (all.reports h o).0.answer ≡ judged.Fine
+        let fine : (o : ℕ) → (R.reports p tree h o).fault ≡ 0 → (all.reports h o).0.answer ≡ Ok tt
         = λ o e. fine_is (all.reports h o).0.answer (fault o ∙ e) in
         subst (Lengthened R p tree) held_is (record {
           instruction = instructed l.instruction;

@@ -1,10 +1,9 @@
 -- Definitions: crews: the calls that one made over a plan and a tree, with what each call handed back (document 01, "The crew's run"). To
 -- be believed, for demand 3.
-use Rattle.std.specs.Prelude.{◌≡◌, List, [], ◌∷◌, ◌++◌, ℕ}
+use Rattle.std.specs.Prelude.{◌≡◌, List, [], ◌∷◌, ◌++◌, ℕ, Result, Ok, Err}
 use Rattle.network.specs.Crew.{Step}
 use Rattle.plan.specs.declared.Plan.{Plan}
-use Rattle.plan.specs.declared.Judged.{Judged}
-use Rattle.plan.specs.declared.Judged.TheVariants as judged
+use Rattle.plan.specs.declared.Refusal.{Refusal}
 use Rattle.run.specs.declared.History.{History}
 use Rattle.run.specs.declared.Shown.{Shown}
 use Rattle.run.specs.declared.Shown.TheVariants as shown
@@ -41,9 +40,9 @@ pub record AlwaysAnswers (R : Run) (p : Plan) (tree : List ℕ) : Type 0 where
   pub reports : (h : History) (o : ℕ) → (a : Reported) × ReportedBy R p tree h o a
 
 -- the masks of the accepted reports, in order
-abbrev pub accepted_by : ℕ → Judged → List ℕ
-accepted_by o judged.Fine = o ∷ []
-accepted_by o (judged.Refused r) = []
+abbrev pub accepted_by : ℕ → Result (Unit {0}) Refusal → List ℕ
+accepted_by o (Ok _) = o ∷ []
+accepted_by o (Err r) = []
 
 unfoldable pub accepted_in : List Made → List ℕ
 accepted_in [] = []
@@ -57,9 +56,9 @@ held_after h (showed says ∷ calls) = held_after h calls
 held_after h (reported o says a ∷ calls) = held_after a.history calls
 
 -- An accepted report follows the instruction told at the history it was given (document 01's words); no other report follows any.
-abbrev pub followed_by : Shown → ℕ → Judged → List Step
-followed_by (shown.Instruct v) o judged.Fine = record { instruction = instructed v; report = o } ∷ []
-followed_by (shown.Instruct v) o (judged.Refused r) = []
+abbrev pub followed_by : Shown → ℕ → Result (Unit {0}) Refusal → List Step
+followed_by (shown.Instruct v) o (Ok _) = record { instruction = instructed v; report = o } ∷ []
+followed_by (shown.Instruct v) o (Err r) = []
 followed_by shown.Done o a = []
 followed_by (shown.Refused r) o a = []
 

@@ -2,7 +2,7 @@
 -- the run over every list of calls. It is said of the values that `search`, `show` and `report` hand back where their contracts cite the
 -- planner's definitions, in the words of document 01's "The crew's run". proofs/Demand3Theorem.antt proves it of this planner,
 -- proofs/Impostors.antt refutes it of others. To be believed, for demand 3.
-use Rattle.std.specs.Prelude.{◌≡◌, ◌↔◌, List, map, true, ℕ, ◌≤◌, ◌<◌, length}
+use Rattle.std.specs.Prelude.{◌≡◌, ◌↔◌, List, map, true, ℕ, ◌≤◌, ◌<◌, length, Result, Ok, Err}
 use Rattle.network.specs.Network.{keeps}
 use Rattle.network.specs.Strategy.{DynamicallyConsistent}
 use Rattle.network.specs.Game.{start, Outcome}
@@ -12,13 +12,11 @@ use Rattle.network.specs.Policy.{Policy, SucceedsAlways}
 use Rattle.network.specs.Crew.{times_performed, slot_by_steps, value_by_steps, HeardAlike, ToldAlike}
 use Rattle.plan.specs.declared.Plan.{Plan}
 use Rattle.plan.specs.declared.Refusal.TheVariants as refusal
-use Rattle.plan.specs.declared.Judged.TheVariants as judged
+use Rattle.plan.specs.declared.Refusal.{Refusal}
 use Rattle.plan.specs.Plan.{network_of}
 use Rattle.plan.specs.WellFormed.{WellFormed}
 use Rattle.tree.specs.Nodes.{most_bytes, first_nodes, overwritten}
 use Rattle.tree.specs.Trees.{tree_bytes}
-use Rattle.search.specs.declared.Searched.{Searched}
-use Rattle.search.specs.declared.Searched.TheVariants as searched
 use Rattle.search.specs.Searched.{searched_answer}
 use Rattle.run.specs.declared.History.{History}
 use Rattle.run.specs.declared.Instruction.{Instruction}
@@ -34,13 +32,13 @@ use Rattle.demands.specs.Crews.{ReportedBy, AlwaysAnswers, Crew, history_held, s
 -- ---- The search
 
 -- what `search` hands back, and leaves in the bytes lent to it
-pub record SearchedBy (P : Planner) (p : Plan) (lent : List ℕ) (r : Searched) (left : List ℕ) : Type 0 where
+pub record SearchedBy (P : Planner) (p : Plan) (lent : List ℕ) (r : Result ℕ Refusal) (left : List ℕ) : Type 0 where
   pub answer : searched_answer r ≡ P.searches p lent
   pub buffer : left ≡ P.leaves p lent
 
 -- refused as hopeless (document 01's term)
-abbrev pub Hopeless : Searched → Type 0
-Hopeless r = r ≡ searched.Refused refusal.Hopeless
+abbrev pub Hopeless : Result ℕ Refusal → Type 0
+Hopeless r = r ≡ Err refusal.Hopeless
 
 -- ---- A run over a plan and a tree
 
@@ -50,8 +48,8 @@ pub record CanBeLengthened (R : Run) (p : Plan) (tree : List ℕ) (h : History) 
   pub instruction : Instruction
   pub is_told : says ≡ shown.Instruct instruction
   pub accepts_exactly :
-      (o : ℕ) (a : Reported) → ReportedBy R p tree h o a → (a.answer ≡ judged.Fine) ↔ Outcome (network_of p) (instructed instruction) o
-  pub lengthens : (o : ℕ) (a : Reported) → ReportedBy R p tree h o a → a.answer ≡ judged.Fine → a.history ≡ longer h o
+      (o : ℕ) (a : Reported) → ReportedBy R p tree h o a → (a.answer ≡ Ok tt) ↔ Outcome (network_of p) (instructed instruction) o
+  pub lengthens : (o : ℕ) (a : Reported) → ReportedBy R p tree h o a → a.answer ≡ Ok tt → a.history ≡ longer h o
 
 -- parts 4 and 5: what holds of every crew, whatever it called
 pub record EveryCrew {R : Run} {p : Plan} {tree : List ℕ} (crew : Crew R p tree) : Type 0 where
@@ -80,7 +78,7 @@ EveryTwoCrews R p tree =
 -- ---- The statement
 
 -- of a plan that was searched with these bytes lent, of what was handed back and of the bytes as they were left
-pub record Demand3For (R : Run) (p : Plan) (lent : List ℕ) (r : Searched) (left : List ℕ) : Type 0 where
+pub record Demand3For (R : Run) (p : Plan) (lent : List ℕ) (r : Result ℕ Refusal) (left : List ℕ) : Type 0 where
   -- 1. refused as hopeless exactly when no dynamic and viable strategy exists in slots 0 to the horizon
   pub hopeless_exactly : Hopeless r ↔ (¬ DynamicallyConsistent (network_of p))
   -- 2. So nobody can manage a plan so refused: nobody who settles each decision with its point and hears each outcome only in a later slot
@@ -91,16 +89,16 @@ pub record Demand3For (R : Run) (p : Plan) (lent : List ℕ) (r : Searched) (lef
   pub has_tree : ¬ Hopeless r → (t : Tree) × FirstMoves (network_of p) t (start (network_of p))
   pub gets_tree :
       ¬ Hopeless r → (t : Tree) → FirstMoves (network_of p) t (start (network_of p)) →
-      (r ≡ searched.Nodes (length (preorder (network_of p) t))) × (left ≡ overwritten (tree_bytes (network_of p) t) lent)
+      (r ≡ Ok (length (preorder (network_of p) t))) × (left ≡ overwritten (tree_bytes (network_of p) t) lent)
   -- 4 and 5. For every list of calls over that plan and the tree that the search made: as many nodes as it answered, as it left them. Every
   -- call hands something back, so that there are such lists.
-  pub always_answers : (n : ℕ) → r ≡ searched.Nodes n → AlwaysAnswers R p (first_nodes left n)
-  pub every_crew : (n : ℕ) → r ≡ searched.Nodes n → (crew : Crew R p (first_nodes left n)) → EveryCrew crew
+  pub always_answers : (n : ℕ) → r ≡ Ok n → AlwaysAnswers R p (first_nodes left n)
+  pub every_crew : (n : ℕ) → r ≡ Ok n → (crew : Crew R p (first_nodes left n)) → EveryCrew crew
   -- 6. for every two such lists, both done, and every slot
-  pub every_two_crews : (n : ℕ) → r ≡ searched.Nodes n → EveryTwoCrews R p (first_nodes left n)
+  pub every_two_crews : (n : ℕ) → r ≡ Ok n → EveryTwoCrews R p (first_nodes left n)
 
 -- of every well-formed plan and every buffer of 573 bytes or more: the search hands something back, and of that
 abbrev pub Demand3 : Planner → Type 0
 Demand3 P =
-    (p : Plan) (lent : List ℕ) → WellFormed p → most_bytes ≤ length lent → ((r : Searched) × (left : List ℕ) × SearchedBy P p lent r left)
-    × ((r : Searched) (left : List ℕ) → SearchedBy P p lent r left → Demand3For P.run p lent r left)
+    (p : Plan) (lent : List ℕ) → WellFormed p → most_bytes ≤ length lent → ((r : Result ℕ Refusal) × (left : List ℕ) × SearchedBy P p lent r left)
+    × ((r : Result ℕ Refusal) (left : List ℕ) → SearchedBy P p lent r left → Demand3For P.run p lent r left)

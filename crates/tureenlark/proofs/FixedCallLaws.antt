@@ -17,8 +17,7 @@ use Rattle.plan.specs.Answer.{Answer, fine}
 use Rattle.plan.specs.Faults.{first}
 use Rattle.plan.specs.Plan.{network_of}
 use Rattle.plan.specs.WellFormed.{WellFormed}
-use Rattle.verdict.specs.declared.Found.TheVariants as found
-use Rattle.verdict.specs.declared.screen.Screened.TheVariants as screened
+use Rattle.std.specs.Prelude.{replicate, Some, None, Ok}
 use Rattle.verdict.specs.Says.{Says}
 use Rattle.verdict.specs.Answers.{Fixed, none}
 use Rattle.verdict.specs.Verdict.{least_schedule, screened}
@@ -112,20 +111,21 @@ module _ (plan : List ℕ) (values : ℕ) (schedule : List ℕ) (enough : plan_l
 
   pub least_schedule_says_so :
       WellFormed p → Setting (network_of p) values →
-      ((n ≡ 1) × Says p values found.Least (take 8 left)) ⊎ ((n ≡ 0) × Says p values found.Nothing (take 8 left))
+      ((n ≡ 1) × Says p values (Ok (Some (take 8 left)))) ⊎ ((n ≡ 0) × Says p values (Ok None) × (take 8 left ≡ replicate 8 0))
   least_schedule_says_so wf setting =
       let none-wrong : a.fault ≡ 0 = ap (λ (x : Answer Fixed). x.fault) (fine_answer p values wf setting) in
       let result = number_is ∙ number_fine a.fault (digit a.value.scheduled) none-wrong in
       let slots = a.value.slots in
       by_test a.value.scheduled
       (λ y.
-      let says = fixed_outcomes.verdict p values (record { found = found.Least; slots = slots })
+      let says = fixed_outcomes.verdict p values (Ok (Some slots))
       (λ i. record { fault = sym none-wrong i; value = record { scheduled = sym y i; slots = slots } }) wf setting in
-      inl (result ∙ ap digit y, subst (Says p values found.Least) (sym slots_are) says))
+      inl (result ∙ ap digit y, subst (λ (l : List ℕ). Says p values (Ok (Some l))) (sym slots_are) says))
       (λ z.
-      let says = fixed_outcomes.verdict p values (record { found = found.Nothing; slots = slots })
-      (λ i. record { fault = sym none-wrong i; value = record { scheduled = sym z i; slots = slots } }) wf setting in
-      inr (result ∙ ap digit z, subst (Says p values found.Nothing) (sym slots_are) says))
+      let zeros : slots ≡ replicate 8 0 = (demand1.verdict p values).zeros z in
+      let says = fixed_outcomes.verdict p values (Ok None)
+      (λ i. record { fault = sym none-wrong i; value = record { scheduled = sym z i; slots = sym zeros i } }) wf setting in
+      inr (result ∙ ap digit z, says, slots_are ∙ zeros))
 
 -- ---- the screen
 
@@ -154,14 +154,14 @@ module _ (plan : List ℕ) (enough : plan_length ≤ length plan) where
       (λ y.
       let so : fine true ≡ answer = λ i. record { fault = sym none-wrong i; value = sym y i } in
       let one = result ∙ ap digit y in
-      let passes = (fixed_outcomes.passes (plan_in plan) screened.Passed so wf).0 refl in (
+      let passes = (fixed_outcomes.passes (plan_in plan) (Ok true) so wf).0 refl in (
         (λ e. passes, λ h. one),
         (λ e. let z : ◌≡◌ {A = ℕ} 1 0 = sym one ∙ e in absurd (omega arith), λ n. absurd (n passes)),
       ))
       (λ z.
       let so : fine false ≡ answer = λ i. record { fault = sym none-wrong i; value = sym z i } in
       let zero = result ∙ ap digit z in
-      let fails = (fixed_outcomes.fails (plan_in plan) screened.Failed so wf).0 refl in (
+      let fails = (fixed_outcomes.fails (plan_in plan) (Ok false) so wf).0 refl in (
         (λ e. let t : ◌≡◌ {A = ℕ} 0 1 = sym zero ∙ e in absurd (omega arith), λ h. absurd (fails h)),
         (λ e. fails, λ n. zero),
       ))

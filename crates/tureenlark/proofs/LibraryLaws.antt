@@ -1,5 +1,5 @@
 -- Laws of short records, and of what a call leaves behind them. Only the checker need believe this file.
-use mathlib.Core.Path.{◌≡◌, refl, ap, ◌∙◌}
+use mathlib.Core.Path.{◌≡◌, ap, ◌∙◌}
 use mathlib.Core.Bool.{Bool, cond}
 use mathlib.Core.List.{List}
 use Prim.Native.Nat.{ℕ, ◌+◌, ◌≤◌, ◌<◌}
@@ -11,13 +11,6 @@ use lib.ListN.{length}
 use lib.Seq.{sets, sets-eq}
 use Rattle.plan.specs.Faults.{unless, first, filled, put_at}
 use Rattle.run.specs.Told.{Told, instruct, complete, refuse}
-use Rattle.verdict.specs.declared.Found.{Found}
-use Rattle.verdict.specs.declared.Found.TheVariants as found
-use Rattle.verdict.specs.Answers.{saying}
-use Rattle.differences.specs.declared.Row.{Row}
-use Rattle.differences.specs.declared.Tabled.{Tabled}
-use Rattle.differences.specs.declared.Tabled.TheVariants as tabled
-use Rattle.differences.specs.Answers.{tabling}
 use Rattle.answers.specs.Numbers.{fault_number, numbered}
 use Rattle.answers.specs.Steps.{told_bytes}
 use Rattle.tureenlark.specs.Library.{short_fault, unless_short}
@@ -91,13 +84,3 @@ pub few_bytes : (told : Told) → length (told_bytes told) ≤ 3
 few_bytes (instruct m) = omega arith
 few_bytes complete = omega arith
 few_bytes (refuse n) = omega arith
-
-pub said_slots : (f : Found) (slots : List ℕ) → slots ≡ (saying f slots).value.slots
-said_slots found.Least slots = refl
-said_slots found.Nothing slots = refl
-said_slots (found.Refused r) slots = refl
-
-pub said_rows : (f : Tabled) (rows : List Row) → rows ≡ (tabling f rows).value.rows
-said_rows tabled.Table rows = refl
-said_rows tabled.Nothing rows = refl
-said_rows (tabled.Refused r) rows = refl

@@ -1,5 +1,6 @@
 -- Laws: the exported calls of plans, trees and the search, over records that are long enough. Only the checker need believe this file;
 -- specs/LibraryDemands.antt has the statements.
+use Rattle.std.specs.Prelude.{Result}
 use mathlib.Core.Path.{◌≡◌, refl, sym, ap, ◌∙◌, subst}
 use mathlib.Core.Logic.{◌↔◌, by_cases}
 use mathlib.Core.Bool.{true}
@@ -14,6 +15,7 @@ use Rattle.network.specs.Tree.{Tree, preorder}
 use Rattle.network.specs.FirstMoves.{FirstMoves}
 use Rattle.network.specs.Policy.{Policy, SucceedsAlways}
 use Rattle.plan.specs.declared.Plan.{Plan}
+use Rattle.plan.specs.declared.Refusal.{Refusal}
 use Rattle.plan.specs.Answer.{Answer, fine}
 use Rattle.plan.specs.Faults.{first, filled}
 use Rattle.plan.specs.Plan.{network_of}
@@ -30,7 +32,6 @@ use Rattle.tree_text.specs.TreeText.{tree_text}
 use Rattle.tree_text.specs.ReadTree.{read_tree, read_tree_leaves}
 use Rattle.tree_text.specs.WriteTree.{write_tree, write_tree_leaves}
 use Rattle.checker.specs.Checker.{check_fault}
-use Rattle.search.specs.declared.Searched.{Searched}
 use Rattle.search.specs.Searched.{searched_answer}
 use Rattle.search.specs.Search.{search_answer, search_leaves}
 use Rattle.search.proofs.SearchTheorems.{fault_is, hopeless_exactly}
@@ -180,7 +181,7 @@ module _ (plan : List ℕ) (enough : plan_length ≤ length plan) where
         )
 
     -- what was handed back, as the search's own answer
-    made : WellFormed p → most_bytes ≤ length tree → (r : Searched) × (searched_answer r ≡ search_answer p tree) × Demand3For the_run p tree r (search_leaves p tree)
+    made : WellFormed p → most_bytes ≤ length tree → (r : Result ℕ Refusal) × (searched_answer r ≡ search_answer p tree) × Demand3For the_run p tree r (search_leaves p tree)
     made wf room =
         let (r, so) = search_said p tree in
         (r, so, (demand3 p tree wf room).1 r (search_leaves p tree) (record { answer = so; buffer = refl }))

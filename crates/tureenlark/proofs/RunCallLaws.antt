@@ -1,5 +1,6 @@
 -- Laws: the exported calls of the crew's run, over records that are long enough. Only the checker need believe this file;
 -- specs/LibraryDemands.antt has the statements.
+use Rattle.std.specs.Prelude.{Ok}
 use mathlib.Core.Path.{◌≡◌, refl, sym, ap, ◌∙◌, subst}
 use mathlib.Core.Bool.{cond}
 use mathlib.Core.List.{List, [], ◌∷◌, ◌++◌, map}
@@ -16,7 +17,6 @@ use Rattle.plan.specs.Faults.{first, filled}
 use Rattle.plan.specs.Plan.{listed}
 use Rattle.plan.proofs.PlanLaws.{listed_same}
 use Rattle.tree.specs.Nodes.{first_nodes}
-use Rattle.search.specs.declared.Searched.TheVariants as searched
 use Rattle.search.specs.Search.{search_answer}
 use Rattle.search.proofs.SearchTheorems.{answered_exactly, fault_is}
 use Rattle.run.specs.declared.History.{History}
@@ -222,11 +222,11 @@ module _ (plan lent : List ℕ) (enough : plan_length ≤ length plan) (small : 
   answer_is : search_answer (plan_in plan) lent ≡ fine (search_number plan lent)
   answer_is = result_is plan enough lent small
 
-  promise : Demand3For the_run (plan_in plan) lent (searched.Nodes (search_number plan lent)) (search_left plan lent)
+  promise : Demand3For the_run (plan_in plan) lent (Ok (search_number plan lent)) (search_left plan lent)
   promise =
       let none = sym (fault_is (plan_in plan) lent) ∙ ap (λ (a : Answer ℕ). a.fault) answer_is in
       let (room, wf, c) = (answered_exactly (plan_in plan) lent).0 none in
-      (demand3 (plan_in plan) lent wf room).1 (searched.Nodes (search_number plan lent)) (search_left plan lent)
+      (demand3 (plan_in plan) lent wf room).1 (Ok (search_number plan lent)) (search_left plan lent)
       (record { answer = sym answer_is; buffer = search_left_is plan enough lent })
 
   pub every_crew_so : (crew : Crew (run_of library plan) (plan_in plan) made) → EveryCrew crew

@@ -11,6 +11,7 @@ use lib.Dec.{eqb}
 use lib.IntN.{negsuc}
 use lib.ListN.{length, get_or, drop, replicate}
 use lib.Signed.{◌≤ℤ◌}
+use Rattle.std.specs.Prelude.{Some, None, Ok}
 use Rattle.network.specs.Mask.{bit, digit}
 use Rattle.network.specs.Fixed.{Setting}
 use Rattle.network.specs.Differences.{ForcedBefore}
@@ -22,7 +23,6 @@ use Rattle.plan.specs.Plan.{signed, network_of}
 use Rattle.plan.specs.WellFormed.{WellFormed}
 use Rattle.plan.proofs.SliceLaws.{get_listed}
 use Rattle.differences.specs.declared.Row.{Row}
-use Rattle.differences.specs.declared.Tabled.TheVariants as tabled
 use Rattle.differences.specs.Answers.{Differences, zero_row, no_table}
 use Rattle.differences.specs.Says.{bits_at, Says}
 use Rattle.differences.specs.Tabling.{difference_table}
@@ -92,6 +92,10 @@ module _ (plan : List ℕ) (values : ℕ) (table : List ℕ) where
     -- ---- records that are long enough
 
     module _ (enough : plan_length ≤ length plan) where
+      -- rows say what a table is to say
+      abbrev SaysRows : List Row → Type 0
+      SaysRows rows = Says p values (Ok (Some (record { rows = rows })))
+
       number_is : n ≡ numbered a.fault (digit a.value.scheduled)
       unfolding first
       number_is =
@@ -131,25 +135,28 @@ module _ (plan : List ℕ) (values : ℕ) (table : List ℕ) where
           (sym fault ∙ ap fault_in e, sym yes ∙ ap (λ (k : ℕ). eqb k 1) e)
 
       -- what is handed back where there is no fault
-      said_table : a.fault ≡ 0 → a.value.scheduled ≡ true → WellFormed p → Setting (network_of p) values → Says p values tabled.Table a.value.rows
+      said_table : a.fault ≡ 0 → a.value.scheduled ≡ true → WellFormed p → Setting (network_of p) values → SaysRows a.value.rows
       said_table fine y =
-          forced_order.table p values (record { tabled = tabled.Table; rows = a.value.rows })
+          forced_order.table p values (Ok (Some (record { rows = a.value.rows })))
           (λ i. record { fault = sym fine i; value = record { scheduled = sym y i; rows = a.value.rows } })
 
-      said_none : a.fault ≡ 0 → a.value.scheduled ≡ false → WellFormed p → Setting (network_of p) values → Says p values tabled.Nothing a.value.rows
+      zero_rows : a.value.scheduled ≡ false → a.value.rows ≡ replicate 8 zero_row
+      zero_rows z = (demand1.differences p values).zeros z
+
+      said_none : a.fault ≡ 0 → a.value.scheduled ≡ false → WellFormed p → Setting (network_of p) values → Says p values (Ok None)
       said_none fine z =
-          forced_order.table p values (record { tabled = tabled.Nothing; rows = a.value.rows })
-          (λ i. record { fault = sym fine i; value = record { scheduled = sym z i; rows = a.value.rows } })
+          forced_order.table p values (Ok None)
+          (λ i. record { fault = sym fine i; value = record { scheduled = sym z i; rows = sym (zero_rows z) i } })
 
       pub table_says_so :
           WellFormed p → Setting (network_of p) values →
-          ((n ≡ 1) × Says p values tabled.Table (rows_in left)) ⊎ ((n ≡ 0) × Says p values tabled.Nothing (rows_in left))
+          ((n ≡ 1) × SaysRows (rows_in left)) ⊎ ((n ≡ 0) × Says p values (Ok None) × (rows_in left ≡ replicate 8 zero_row))
       table_says_so wf setting =
           let fine : a.fault ≡ 0 = ap (λ (x : Answer Differences). x.fault) (fine_answer p values wf setting) in
           let result = number_is ∙ number_fine a.fault (digit a.value.scheduled) fine in
           by_test a.value.scheduled
-          (λ y. inl (result ∙ ap digit y, subst (Says p values tabled.Table) (sym rows_are) (said_table fine y wf setting)))
-          (λ z. inr (result ∙ ap digit z, subst (Says p values tabled.Nothing) (sym rows_are) (said_none fine z wf setting)))
+          (λ y. inl (result ∙ ap digit y, subst SaysRows (sym rows_are) (said_table fine y wf setting)))
+          (λ z. inr (result ∙ ap digit z, said_none fine z wf setting, rows_are ∙ zero_rows z))
 
       -- an entry of the rows that the bytes say
       entry_is : (x y : ℕ) → x < 8 → y < 8 → bits_at (rows_in left) x y ≡ bits_in left (16 * x + 2 * y)
@@ -164,7 +171,7 @@ module _ (plan : List ℕ) (values : ℕ) (table : List ℕ) where
           let (fine, some) = one_fine e in
           let (wf, setting) = fine_fault p values fine in
           let most = wf.head.points in
-          let tells = subst (Says p values tabled.Table) (sym rows_are) (said_table fine some wf setting) in
+          let tells = subst SaysRows (sym rows_are) (said_table fine some wf setting) in
           subst (λ (b : ℕ). ForcedBefore (network_of p) (bit values) x y ↔ (signed b ≤ℤ negsuc 0)) (entry_is y x (omega arith) (omega arith))
           (before_exactly (network_of p) (bit values) (rows_in left) tells x y lx ly)
 

@@ -1,7 +1,7 @@
 -- Demands 1, 2 and 3, and card 2, of the exported calls, over buffers of any length and contents, as one statement about a library. It speaks of the
 -- bytes that a program hands over and gets back. proofs/LibraryTheorem.antt proves it of this library. To be believed, for the library
 -- only.
-use Rattle.std.specs.Prelude.{◌≡◌, true, ◌↔◌, ◌⊎◌, List, [], ◌∷◌, ◌++◌, ℕ, ◌+◌, ◌*◌, ◌≤◌, ◌<◌, eqb, negsuc, length, take, drop, replicate, ◌≤ℤ◌}
+use Rattle.std.specs.Prelude.{◌≡◌, true, ◌↔◌, ◌⊎◌, List, [], ◌∷◌, ◌++◌, ℕ, ◌+◌, ◌*◌, ◌≤◌, ◌<◌, eqb, negsuc, length, take, drop, replicate, ◌≤ℤ◌, Some, None, Ok}
 use Rattle.network.specs.Mask.{bit}
 use Rattle.network.specs.Strategy.{Strategy, Viable, Dynamic, DynamicallyConsistent}
 use Rattle.network.specs.Game.{start}
@@ -20,9 +20,8 @@ use Rattle.plan_text.specs.PlanText.{plan_text}
 use Rattle.tree_text.specs.TreeText.{tree_text}
 use Rattle.following.specs.Calls.{begun, after_calls}
 use Rattle.following.specs.Following.{calls_in}
-use Rattle.verdict.specs.declared.Found.TheVariants as found
 use Rattle.verdict.specs.Says.{Says}
-use Rattle.differences.specs.declared.Tabled.TheVariants as tabled
+use Rattle.differences.specs.Answers.{zero_row}
 use Rattle.differences.specs.Says as tables
 use Rattle.demands.specs.EachCall.{Sized, OneOf, AnswersJudge, AnswersReadPlan, AnswersWritePlan, AnswersReadTree, AnswersWriteTree}
 use Rattle.demands.specs.EachCall.{AnswersCheck, AnswersSearch, AnswersShow, AnswersReport, AnswersVerdict, AnswersScreen, AnswersTable, AnswersProgram}
@@ -192,7 +191,8 @@ pub record LibraryDemands (L : Exported) : Type 0 where
       (plan : List ℕ) (values : ℕ) (schedule : List ℕ) → plan_length ≤ length plan → 8 ≤ length schedule → WellFormed (plan_in plan) →
       Setting (network_of (plan_in plan)) values →
       let n = L.least_schedule plan values schedule in let slots = take 8 (L.least_schedule_left plan values schedule) in
-      ((n ≡ 1) × Says (plan_in plan) values found.Least slots) ⊎ ((n ≡ 0) × Says (plan_in plan) values found.Nothing slots)
+      ((n ≡ 1) × Says (plan_in plan) values (Ok (Some slots)))
+      ⊎ ((n ≡ 0) × Says (plan_in plan) values (Ok None) × (slots ≡ replicate 8 0))
   pub screen :
       (plan : List ℕ) → plan_length ≤ length plan → let n = L.screen plan in
       AnswersScreen (plan_in plan) (record { fault = fault_in n; value = eqb n 1 })
@@ -213,7 +213,8 @@ pub record LibraryDemands (L : Exported) : Type 0 where
       (plan : List ℕ) (values : ℕ) (table : List ℕ) → plan_length ≤ length plan → table_length ≤ length table → WellFormed (plan_in plan) →
       Setting (network_of (plan_in plan)) values →
       let n = L.differences plan values table in let rows = rows_in (L.differences_left plan values table) in
-      ((n ≡ 1) × tables.Says (plan_in plan) values tabled.Table rows) ⊎ ((n ≡ 0) × tables.Says (plan_in plan) values tabled.Nothing rows)
+      ((n ≡ 1) × tables.Says (plan_in plan) values (Ok (Some (record { rows = rows }))))
+      ⊎ ((n ≡ 0) × tables.Says (plan_in plan) values (Ok None) × (rows ≡ replicate 8 zero_row))
   -- where a table is answered, X is forced strictly before Y exactly when the entry at row Y, column X is at most -1
   pub differences_forced :
       (plan : List ℕ) (values : ℕ) (table : List ℕ) → plan_length ≤ length plan → table_length ≤ length table →

@@ -11,7 +11,7 @@ ghost use Rattle.tureenlark.specs.Library.{show_number, show_left, report_number
 ghost use Rattle.tureenlark.specs.Library.{least_schedule_number, least_schedule_left, screen_number, answer_text_number, answer_text_left};
 ghost use Rattle.tureenlark.specs.Library.{differences_number, differences_left};
 
-use answers::{numbers, steps, tables};
+use answers::{numbers, places, steps, tables};
 use plan::Refusal;
 use records::{history, plan_record, storing};
 
@@ -30,7 +30,7 @@ pub extern "C" fn tureenlark_judge_plan(plan: &[u8]) -> usize
     if plan.len() < plan_record::LENGTH {
         return numbers::refused(Refusal::Buffer);
     }
-    numbers::judged(judge::judge(plan_record::plan_in(plan)))
+    numbers::number(judge::judge(plan_record::plan_in(plan)))
 }
 
 // 1, and the record that a text says; or refused with 1, 2, 3, 4, and a record that is all zero.
@@ -43,9 +43,8 @@ pub extern "C" fn tureenlark_read_plan(text: &[u8], plan: &mut [u8]) -> usize
         return numbers::refused(Refusal::Buffer);
     }
     let read = plan_text::reading::read_plan(text);
-    let answer = read.answer;
-    plan_record::put_plan(plan, read.plan);
-    numbers::judged(answer)
+    plan_record::put_plan(plan, places::plan_of(read));
+    numbers::number(read)
 }
 
 // The text of a plan, and its length; or refused with 2, 3, 4, 10.
@@ -57,7 +56,7 @@ pub extern "C" fn tureenlark_write_plan(plan: &[u8], text: &mut [u8]) -> usize
     if plan.len() < plan_record::LENGTH {
         return numbers::refused(Refusal::Buffer);
     }
-    numbers::written(plan_text::writing::write_plan(plan_record::plan_in(plan), text))
+    numbers::number(plan_text::writing::write_plan(plan_record::plan_in(plan), text))
 }
 
 // The tree that a text says, and the number of its nodes; or refused with 10, 5.
@@ -66,7 +65,7 @@ pub extern "C" fn tureenlark_read_tree(text: &[u8], tree: &mut [u8]) -> usize
     ensures answer { result ≡ read_tree_number text.now tree.old }
     ensures buffer { tree.new ≡ read_tree_leaves text.now tree.old }
 {
-    numbers::tree_read(tree_text::reading::read_tree(text, tree))
+    numbers::number(tree_text::reading::read_tree(text, tree))
 }
 
 // The text of a tree's bytes, and its length; or refused with 6, 10.
@@ -75,7 +74,7 @@ pub extern "C" fn tureenlark_write_tree(tree: &[u8], text: &mut [u8]) -> usize
     ensures answer { result ≡ write_tree_number tree.now text.old }
     ensures buffer { text.new ≡ write_tree_leaves tree.now text.old }
 {
-    numbers::written(tree_text::writing::write_tree(tree, text))
+    numbers::number(tree_text::writing::write_tree(tree, text))
 }
 
 // 1 where the bytes are a tree whose every path keeps the plan; or refused with 2, 3, 4, 6, 7.
@@ -86,7 +85,7 @@ pub extern "C" fn tureenlark_check_tree(plan: &[u8], tree: &[u8]) -> usize
     if plan.len() < plan_record::LENGTH {
         return numbers::refused(Refusal::Buffer);
     }
-    numbers::judged(checker::check_tree(plan_record::plan_in(plan), tree))
+    numbers::number(checker::check_tree(plan_record::plan_in(plan), tree))
 }
 
 // The tree of first moves, and the number of its nodes; or refused with 10, 2, 3, 4, 11.
@@ -98,7 +97,7 @@ pub extern "C" fn tureenlark_search(plan: &[u8], tree: &mut [u8]) -> usize
     if plan.len() < plan_record::LENGTH {
         return numbers::refused(Refusal::Buffer);
     }
-    numbers::searched(search::search(plan_record::plan_in(plan), tree))
+    numbers::number(search::search(plan_record::plan_in(plan), tree))
 }
 
 // 1, and the instruction told at the history; 0 where the crew is done; or refused with 2, 3, 4, 6, 7, 8, 9.
@@ -144,9 +143,8 @@ pub extern "C" fn tureenlark_report(plan: &[u8], tree: &[u8], history: &mut [u8]
     }
     let given = history::history_in(history);
     let reported = given.report(plan_record::plan_in(plan), tree, mask);
-    let answer = reported.answer;
     history::put_history(history, reported.history);
-    numbers::judged(answer)
+    numbers::number(reported.answer)
 }
 
 // The calls of a list, one after the other from a history on: the number of accepted reports, the history that is left, and the steps.
@@ -193,11 +191,9 @@ pub extern "C" fn tureenlark_least_schedule(plan: &[u8], values: u8, schedule: &
         storing::put_bytes(schedule, 0, &[0; SCHEDULE]);
         return numbers::refused(Refusal::Buffer);
     }
-    let verdict = verdict::least_schedule(plan_record::plan_in(plan), values);
-    let found = verdict.found;
-    let slots = verdict.slots;
-    storing::put_bytes(schedule, 0, &slots);
-    numbers::found(found, slots)
+    let answer = verdict::least_schedule(plan_record::plan_in(plan), values);
+    storing::put_bytes(schedule, 0, &places::slots_of(answer));
+    numbers::number(answer)
 }
 
 // 1 where every setting of all letters has a schedule, 0 where one has none; or refused with 2, 3, 4.
@@ -208,7 +204,7 @@ pub extern "C" fn tureenlark_screen(plan: &[u8]) -> usize
     if plan.len() < plan_record::LENGTH {
         return numbers::refused(Refusal::Buffer);
     }
-    numbers::screened(verdict::screen::screen_plan(plan_record::plan_in(plan)))
+    numbers::number(verdict::screen::screen_plan(plan_record::plan_in(plan)))
 }
 
 // 1, and the table of differences where the letters of `values` are true and the others false; 0 for none; or refused with 2, 3, 4, 8.
@@ -226,10 +222,8 @@ pub extern "C" fn tureenlark_differences(plan: &[u8], values: u8, table: &mut [u
         return numbers::refused(Refusal::Buffer);
     }
     let answer = differences::difference_table(plan_record::plan_in(plan), values);
-    let tabled = answer.tabled;
-    let rows = answer.rows;
-    tables::put_table(table, rows);
-    numbers::tabled(tabled, rows)
+    tables::put_table(table, places::rows_of(answer));
+    numbers::number(answer)
 }
 
 // What the program prints for an input, and its length; or refused with 10.
@@ -239,11 +233,10 @@ pub extern "C" fn tureenlark_answer(input: &[u8], text: &mut [u8]) -> usize
     ensures buffer { text.new ≡ answer_text_left input.now text.old }
 {
     let answer = answer_text::answer_to(input);
-    let bytes = answer.bytes;
     let n = answer.length;
     if text.len() < n {
         return numbers::refused(Refusal::Buffer);
     }
-    storing::put_bytes(text, 0, &bytes[..n]);
+    storing::put_bytes(text, 0, &answer.bytes[..n]);
     n
 }

@@ -24,9 +24,6 @@ returns-then-text-n c =
       buffer = filled_short (answer_fault input t) (answer_text input) t e;
     }
 
-pub slice_bounds-bytes-end : goal.slice_bounds-bytes-end
-slice_bounds-bytes-end c = text_inside c.args.input.now c.answer_to-answer.result c.answer_to-answer.ensures
-
 pub slice_bounds-put_bytes-end : goal.slice_bounds-put_bytes-end
 slice_bounds-put_bytes-end c =
     let r = c.answer_to-answer.result in

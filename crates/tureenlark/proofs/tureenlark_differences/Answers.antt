@@ -15,9 +15,10 @@ use Rattle.records.specs.Records.{plan_in}
 use Rattle.answers.specs.Numbers.{table_number}
 use Rattle.answers.specs.Tables.{table_bytes}
 use Rattle.answers.proofs.TableLaws.{table_length_lem, zero_bytes}
+use Rattle.answers.proofs.NumberLaws.{number_tabled}
 use Rattle.tureenlark.specs.Library.{plan_short, short_fault, table_short, table_for}
 use Rattle.tureenlark.proofs.LibraryLaws.{short, long, first_short, then_short, number_short, number_long, left_short, left_long}
-use Rattle.tureenlark.proofs.LibraryLaws.{filled_short, filled_long, put_long, said_rows}
+use Rattle.tureenlark.proofs.LibraryLaws.{filled_short, filled_long, put_long}
 use Rattle.tureenlark.proofs.tureenlark_differences.Goals as goal
 
 pub returns-then-table-lt-LENGTH : goal.returns-then-table-lt-LENGTH
@@ -60,12 +61,12 @@ returns c =
     let t = c.difference_table-answer.result in
     let said : table_answer t ≡ a =
     c.difference_table-answer.ensures ∙ ap (λ (p : Plan). difference_table p m) c.plan_in.ensures in
-    let bytes : table_bytes t.rows ≡ table_for b m =
-    ap table_bytes (said_rows t.tabled t.rows ∙ ap (λ (x : Answer Differences). x.value.rows) said)
+    let bytes : table_bytes c.rows_of.result ≡ table_for b m =
+    ap table_bytes (c.rows_of.ensures ∙ ap (λ (x : Answer Differences). x.value.rows) said)
     ∙ left_long (plan_short b) (table_bytes a.value.rows) (table_bytes no_table.rows) whole in
-    let all = table_length_lem t.rows in
+    let all = table_length_lem c.rows_of.result in
     let room : length (table_for b m) ≤ length s = rw (← bytes) (omega arith) in
     record {
-      answer = c.tabled.ensures ∙ ap table_number said ∙ number_long (table_short b s) a.fault (digit a.value.scheduled) (then_short (short_fault 128 s) (plan_short b) 0 there whole);
+      answer = c.number.ensures ∙ number_tabled t ∙ ap table_number said ∙ number_long (table_short b s) a.fault (digit a.value.scheduled) (then_short (short_fault 128 s) (plan_short b) 0 there whole);
       buffer = c.put_table.ensures ∙ ap (sets s 0) bytes ∙ filled_long (short_fault 128 s) (table_for b m) s there room;
     }

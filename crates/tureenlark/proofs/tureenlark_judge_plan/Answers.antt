@@ -4,6 +4,7 @@ use Prim.Native.Nat.{ℕ}
 use Rattle.answers.specs.Numbers.{numbered}
 use Rattle.records.specs.Records.{plan_in}
 use Rattle.judge.specs.Judge.{plan_fault}
+use Rattle.answers.proofs.NumberLaws.{number_judged}
 use Rattle.tureenlark.specs.Library.{plan_short}
 use Rattle.tureenlark.proofs.LibraryLaws.{short, long, number_short, number_long}
 use Rattle.tureenlark.proofs.tureenlark_judge_plan.Goals as goal
@@ -16,5 +17,5 @@ returns-then-plan-lt-LENGTH c =
 pub returns : goal.returns
 returns c =
     let b = c.args.plan.now in
-    c.judged.ensures ∙ ap (λ (n : ℕ). numbered n 1) (c.judge.ensures ∙ ap plan_fault c.plan_in.ensures)
+    c.number.ensures ∙ number_judged _ ∙ ap (λ (n : ℕ). numbered n 1) (c.judge.ensures ∙ ap plan_fault c.plan_in.ensures)
     ∙ number_long (plan_short b) (plan_fault (plan_in b)) 1 (long 400 b c.if-plan-lt-LENGTH.false)

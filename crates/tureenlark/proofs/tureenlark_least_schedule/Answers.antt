@@ -12,8 +12,9 @@ use Rattle.verdict.specs.Verdict.{least_schedule}
 use Rattle.verdict.specs.Answers.{none, Fixed, verdict_answer}
 use Rattle.records.specs.Records.{plan_in}
 use Rattle.answers.specs.Numbers.{fixed_number}
+use Rattle.answers.proofs.NumberLaws.{number_fixed}
 use Rattle.tureenlark.specs.Library.{plan_short, short_fault, schedule_short, slots_for}
-use Rattle.tureenlark.proofs.LibraryLaws.{short, long, first_short, then_short, number_short, number_long, left_short, left_long, filled_short, put_long, said_slots}
+use Rattle.tureenlark.proofs.LibraryLaws.{short, long, first_short, then_short, number_short, number_long, left_short, left_long, filled_short, put_long}
 use borrow.Author.Rules.{rules}
 use Rattle.tureenlark.proofs.tureenlark_least_schedule.Goals as goal
 
@@ -52,16 +53,16 @@ returns c =
     let a = least_schedule (plan_in b) m in
     let there = long 8 s c.if-schedule-lt-SCHEDULE.false in
     let whole = long 400 b c.if-plan-lt-LENGTH.false in
-    let v = c.least_schedule-verdict.result in
+    let v = c.least_schedule-answer.result in
     let said : verdict_answer v ≡ a =
-    c.least_schedule-verdict.ensures ∙ ap (λ (p : Plan). least_schedule p m) c.plan_in.ensures in
-    let slots : v.slots ≡ slots_for b m =
-    said_slots v.found v.slots
+    c.least_schedule-answer.ensures ∙ ap (λ (p : Plan). least_schedule p m) c.plan_in.ensures in
+    let slots : c.slots_of.result ≡ slots_for b m =
+    c.slots_of.ensures
     ∙ ap (λ (x : Answer Fixed). x.value.slots) said
     ∙ left_long (plan_short b) a.value.slots none.slots whole in
-    let eight : length v.slots ≡ 8 = search rules in
+    let eight : length c.slots_of.result ≡ 8 = search rules in
     let room : length (slots_for b m) ≤ length s = rw (← slots) (omega arith) in
     record {
-      answer = c.found.ensures ∙ ap fixed_number said ∙ number_long (schedule_short b s) a.fault (digit a.value.scheduled) (then_short (short_fault 8 s) (plan_short b) 0 there whole);
+      answer = c.number.ensures ∙ number_fixed v ∙ ap fixed_number said ∙ number_long (schedule_short b s) a.fault (digit a.value.scheduled) (then_short (short_fault 8 s) (plan_short b) 0 there whole);
       buffer = c.put_bytes-2.ensures ∙ ap (put_at s 0) slots ∙ put_long (short_fault 8 s) (slots_for b m) s there room;
     }

@@ -10,6 +10,7 @@ use Rattle.plan.specs.Faults.{put_at}
 use Rattle.plan_text.specs.ReadPlan.{read_plan}
 use Rattle.records.specs.Records.{plan_bytes}
 use Rattle.records.proofs.RecordsTheorems.{plan_bytes_lem}
+use Rattle.answers.proofs.NumberLaws.{number_read}
 use Rattle.tureenlark.specs.Library.{plan_short}
 use Rattle.tureenlark.proofs.LibraryLaws.{short, long, number_short, number_long, filled_short, put_long}
 use Rattle.tureenlark.proofs.tureenlark_read_plan.Goals as goal
@@ -32,7 +33,7 @@ returns c =
     let said = c.read_plan-read.ensures in
     let room : length (plan_bytes a.value) ≤ length b = rw (plan_bytes_lem a.value) (omega arith) in
     record {
-      answer = c.judged.ensures ∙ ap (λ (x : Answer Plan). numbered x.fault 1) said ∙ number_long (plan_short b) a.fault 1 e;
-      buffer = c.put_plan.ensures ∙ ap (λ (x : Answer Plan). put_at b 0 (plan_bytes x.value)) said
+      answer = c.number.ensures ∙ number_read _ ∙ ap (λ (x : Answer Plan). numbered x.fault 1) said ∙ number_long (plan_short b) a.fault 1 e;
+      buffer = c.put_plan.ensures ∙ ap (λ (p : Plan). put_at b 0 (plan_bytes p)) (c.plan_of.ensures ∙ ap (λ (x : Answer Plan). x.value) said)
           ∙ put_long (plan_short b) (plan_bytes a.value) b e room;
     }

@@ -8,6 +8,7 @@ use Rattle.plan.specs.Answer.{Answer}
 use Rattle.plan.specs.Faults.{put_at}
 use Rattle.run.specs.declared.History.{History}
 use Rattle.records.specs.Records.{history_bytes}
+use Rattle.answers.proofs.NumberLaws.{number_judged}
 use Rattle.tureenlark.specs.Library.{plan_short, history_short, report_short, report_at}
 use Rattle.tureenlark.proofs.LibraryLaws.{short, long, first_short, then_short, number_short, number_long, filled_short, put_long}
 use borrow.Author.Rules.{rules}
@@ -53,7 +54,7 @@ returns c =
     let eight : length c.report-reported.result.history.masks ≡ 8 = search rules in
     let room : length (history_bytes a.value) ≤ length h = rw (← said) (omega arith) in
     record {
-      answer = c.judged.ensures ∙ ap (λ (x : Answer History). numbered x.fault 1) said ∙ number_long (report_short b h) a.fault 1 e;
+      answer = c.number.ensures ∙ number_judged _ ∙ ap (λ (x : Answer History). numbered x.fault 1) said ∙ number_long (report_short b h) a.fault 1 e;
       buffer = c.put_history.ensures ∙ ap (λ (x : Answer History). put_at h 0 (history_bytes x.value)) said
           ∙ put_long (report_short b h) (history_bytes a.value) h e room;
     }

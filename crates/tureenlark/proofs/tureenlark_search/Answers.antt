@@ -4,6 +4,7 @@ use Rattle.plan.specs.declared.Plan.{Plan}
 use Rattle.records.specs.Records.{plan_in}
 use Rattle.answers.specs.Numbers.{answer_number}
 use Rattle.search.specs.Search.{search_answer, search_leaves}
+use Rattle.answers.proofs.NumberLaws.{number_counted}
 use Rattle.tureenlark.specs.Library.{plan_short}
 use Rattle.tureenlark.proofs.LibraryLaws.{short, long, number_short, number_long, left_short, left_long}
 use Rattle.tureenlark.proofs.tureenlark_search.Goals as goal
@@ -26,7 +27,7 @@ returns c =
     let is = c.plan_in.ensures in
     let said = c.search.ensures in
     record {
-      answer = c.searched.ensures ∙ ap answer_number (said.answer ∙ ap (λ (p : Plan). search_answer p t) is)
+      answer = c.number.ensures ∙ number_counted _ ∙ ap answer_number (said.answer ∙ ap (λ (p : Plan). search_answer p t) is)
           ∙ number_long (plan_short b) (search_answer (plan_in b) t).fault (search_answer (plan_in b) t).value e;
       buffer = said.buffer ∙ ap (λ (p : Plan). search_leaves p t) is ∙ left_long (plan_short b) (search_leaves (plan_in b) t) t e;
     }

@@ -4,6 +4,7 @@ use Rattle.plan.specs.declared.Plan.{Plan}
 use Rattle.records.specs.Records.{plan_in}
 use Rattle.answers.specs.Numbers.{answer_number}
 use Rattle.plan_text.specs.WritePlan.{write_plan, write_plan_leaves}
+use Rattle.answers.proofs.NumberLaws.{number_counted}
 use Rattle.tureenlark.specs.Library.{plan_short}
 use Rattle.tureenlark.proofs.LibraryLaws.{short, long, number_short, number_long, left_short, left_long}
 use Rattle.tureenlark.proofs.tureenlark_write_plan.Goals as goal
@@ -26,7 +27,7 @@ returns c =
     let is = c.plan_in.ensures in
     let said = c.write_plan.ensures in
     record {
-      answer = c.written.ensures ∙ ap answer_number (said.answer ∙ ap (λ (p : Plan). write_plan p t) is)
+      answer = c.number.ensures ∙ number_counted _ ∙ ap answer_number (said.answer ∙ ap (λ (p : Plan). write_plan p t) is)
           ∙ number_long (plan_short b) (write_plan (plan_in b) t).fault (write_plan (plan_in b) t).value e;
       buffer = said.buffer ∙ ap (λ (p : Plan). write_plan_leaves p t) is ∙ left_long (plan_short b) (write_plan_leaves (plan_in b) t) t e;
     }
