@@ -12,14 +12,9 @@ use steps::Kept;
 // The lines of one file, each of which prints one line. A last line needs no line feed.
 fn carry_out_lines(rt: &impl Print, text: &[u8]) {
     let mut kept = Kept::nothing();
-    let mut rest = text;
-    while 0 < rest.len() {
-        let end = lines::line_end(rest);
-        let next = kept.carry_out(rt, lines::front(rest, end));
+    for line in text.split_inclusive(|b| *b == b'\n') {
+        kept.carry_out(rt, line.strip_suffix(b"\n").unwrap_or(line));
         printing::end_line(rt);
-        let following = lines::behind(lines::behind(rest, end), 1);
-        kept = next;
-        rest = following;
     }
 }
 
@@ -38,11 +33,8 @@ fn carry_out_file(rt: &HostRuntime, i: usize) {
 }
 
 fn main(rt: HostRuntime) {
-    let count = system::argument_count(&rt);
     // argument 0 is the program's own name
-    let mut i: usize = 1;
-    while i < count {
+    for i in 1..system::argument_count(&rt) {
         carry_out_file(&rt, i);
-        i += 1;
     }
 }

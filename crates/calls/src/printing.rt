@@ -1,11 +1,10 @@
-// Answers, printed to standard output. The line feed after each is printed by the caller.
+// Answers, printed to standard output. The line feed after each is printed by the caller. (No Display: answers are
+// Results, which std alone could say how to print, and what stands in them has no text of its own but docs/CASES.md's digits and words.)
 use crate::lines;
-use differences::{Row, Tabled};
-use frame::{Written, hex, writing};
-use plan::{Judged, Refusal};
+use differences::Row;
+use frame::{hex, writing};
+use plan::Refusal;
 use run::{History, Instruction, Shown};
-use verdict::Found;
-use verdict::screen::Screened;
 
 pub fn print(rt: &impl Print, text: &[u8]) {
     system::print(rt, text);
@@ -21,17 +20,14 @@ fn print_byte(rt: &impl Print, b: u8) {
 }
 
 pub fn print_eight(rt: &impl Print, bytes: [u8; 8]) {
-    let mut i: usize = 0;
-    while i < 8 {
-        print_byte(rt, bytes[i]);
-        i += 1;
+    for b in bytes {
+        print_byte(rt, b);
     }
 }
 
 pub fn print_history(rt: &impl Print, history: History) {
-    let masks = history.masks;
     print_byte(rt, history.count);
-    print_eight(rt, masks);
+    print_eight(rt, history.masks);
 }
 
 // Its frame, without the line feed.
@@ -41,10 +37,10 @@ pub fn print_refusal(rt: &impl Print, r: Refusal) {
 }
 
 // A word for what is fine, or the refusal.
-pub fn print_judged(rt: &impl Print, fine: &[u8], answer: Judged) {
+pub fn print_judged(rt: &impl Print, fine: &[u8], answer: Result<(), Refusal>) {
     match answer {
-        Judged::Fine => print(rt, fine),
-        Judged::Refused(r) => print_refusal(rt, r),
+        Ok(()) => print(rt, fine),
+        Err(r) => print_refusal(rt, r),
     }
 }
 
@@ -57,58 +53,47 @@ fn print_text(rt: &impl Print, text: &[u8]) {
 }
 
 // The text that was written at the front of the buffer, or the refusal.
-pub fn print_written(rt: &impl Print, answer: Written, out: &[u8]) {
+pub fn print_written(rt: &impl Print, answer: Result<usize, Refusal>, out: &[u8]) {
     match answer {
-        Written::Length(n) => print_text(rt, lines::front(out, n)),
-        Written::Refused(r) => print_refusal(rt, r),
+        Ok(n) => print_text(rt, lines::front(out, n)),
+        Err(r) => print_refusal(rt, r),
     }
 }
 
-pub fn print_found(rt: &impl Print, found: Found) {
-    match found {
-        Found::Least => print(rt, b"least"),
-        Found::Nothing => print(rt, b"none"),
-        Found::Refused(r) => print_refusal(rt, r),
-    }
-}
-
-pub fn print_tabled(rt: &impl Print, tabled: Tabled) {
-    match tabled {
-        Tabled::Table => print(rt, b"table"),
-        Tabled::Nothing => print(rt, b"none"),
-        Tabled::Refused(r) => print_refusal(rt, r),
+// A word for what was found, "none", or the refusal.
+pub fn print_found<T: Copy>(rt: &impl Print, found: &[u8], answer: Result<Option<T>, Refusal>) {
+    match answer {
+        Ok(Some(_)) => print(rt, found),
+        Ok(None) => print(rt, b"none"),
+        Err(r) => print_refusal(rt, r),
     }
 }
 
 // Four digits.
 fn print_entry(rt: &impl Print, bits: u16) {
-    print_byte(rt, (bits / 256) as u8);
-    print_byte(rt, (bits % 256) as u8);
+    for b in bits.to_be_bytes() {
+        print_byte(rt, b);
+    }
 }
 
 // Eight entries.
 fn print_row(rt: &impl Print, row: Row) {
-    let to = row.to;
-    let mut y: usize = 0;
-    while y < 8 {
-        print_entry(rt, to[y]);
-        y += 1;
+    for bits in row.to {
+        print_entry(rt, bits);
     }
 }
 
 pub fn print_rows(rt: &impl Print, rows: [Row; 8]) {
-    let mut x: usize = 0;
-    while x < 8 {
-        print_row(rt, rows[x]);
-        x += 1;
+    for row in rows {
+        print_row(rt, row);
     }
 }
 
-pub fn print_screened(rt: &impl Print, answer: Screened) {
+pub fn print_screened(rt: &impl Print, answer: Result<bool, Refusal>) {
     match answer {
-        Screened::Passed => print(rt, b"passes"),
-        Screened::Failed => print(rt, b"fails"),
-        Screened::Refused(r) => print_refusal(rt, r),
+        Ok(true) => print(rt, b"passes"),
+        Ok(false) => print(rt, b"fails"),
+        Err(r) => print_refusal(rt, r),
     }
 }
 

@@ -1,17 +1,17 @@
 // What a line of a case file does: the call that it names, whose answer is printed, and what is kept for the lines behind it.
 use crate::{hex_bytes, lines, printing};
+use differences::Row;
 use frame::reading;
-use plan::{Judged, Plan, Refusal, bytes};
+use plan::{Plan, bytes};
 use run::History;
-use tree_text::TreeRead;
 
-// A plan, the bytes of a tree (the first `size` of `nodes`) and a history.
-#[derive(Clone, Copy)]
+// A plan, the bytes of a tree (the first `size` of `nodes`: there is no heap, and the tree is kept from line to line) and a history.
+#[derive(Drop)]
 pub struct Kept {
-    pub plan: Plan,
-    pub nodes: [u8; 600],
-    pub size: usize,
-    pub history: History,
+    plan: Plan,
+    nodes: [u8; 600],
+    size: usize,
+    history: History,
 }
 
 impl Kept {
@@ -25,159 +25,119 @@ impl Kept {
         }
     }
 
-    fn with_plan(self, plan: Plan) -> Kept {
-        let mut next = self;
-        next.plan = plan;
-        next
+    // The bytes of the tree.
+    fn tree(&self) -> &[u8] {
+        lines::front(&self.nodes, self.size)
     }
 
-    fn with_tree(self, nodes: [u8; 600], size: usize) -> Kept {
-        let mut next = self;
-        next.nodes = nodes;
-        next.size = size;
-        next
-    }
-
-    fn with_history(self, history: History) -> Kept {
-        let mut next = self;
-        next.history = history;
-        next
-    }
-
-    // Only prints.
-    fn say(self, rt: &impl Print, words: &[u8]) -> Kept {
-        printing::print(rt, words);
-        self
-    }
-
-    // Only prints a refusal.
-    fn refuse(self, rt: &impl Print, r: Refusal) -> Kept {
-        printing::print_refusal(rt, r);
-        self
-    }
-
-    fn write_plan(self, rt: &impl Print) -> Kept {
-        let plan = self.plan;
+    fn write_plan(&self, rt: &impl Print) {
         let mut out = [0u8; 1025];
-        let written = plan_text::writing::write_plan(plan, &mut out);
+        let written = plan_text::writing::write_plan(self.plan, &mut out);
         printing::print_written(rt, written, &out);
-        self
     }
 
-    fn write_tree(self, rt: &impl Print) -> Kept {
-        let nodes = self.nodes;
+    fn write_tree(&self, rt: &impl Print) {
         let mut out = [0u8; 1724];
-        let written = tree_text::writing::write_tree(lines::front(&nodes, self.size), &mut out);
+        let written = tree_text::writing::write_tree(self.tree(), &mut out);
         printing::print_written(rt, written, &out);
-        self
     }
 
-    fn read_plan(self, rt: &impl Print, text: &[u8]) -> Kept {
+    fn read_plan(&mut self, rt: &impl Print, text: &[u8]) {
         let mut frames = [0u8; 65536];
         let n = lines::put_exchanged(text, b'|', b'\n', &mut frames);
-        let read = plan_text::reading::read_plan(&frames[..n]);
-        let plan = read.plan;
-        let answer = read.answer;
-        let next = self.with_plan(plan);
-        match answer {
-            Judged::Fine => next.write_plan(rt),
-            Judged::Refused(r) => next.refuse(rt, r),
+        match plan_text::reading::read_plan(&frames[..n]) {
+            Ok(plan) => {
+                self.plan = plan;
+                self.write_plan(rt);
+            }
+            Err(r) => {
+                self.plan = plan::zero_plan();
+                printing::print_refusal(rt, r);
+            }
         }
     }
 
-    fn read_tree(self, rt: &impl Print, text: &[u8]) -> Kept {
+    fn read_tree(&mut self, rt: &impl Print, text: &[u8]) {
         let mut frames = [0u8; 65536];
         let n = lines::put_exchanged(text, b'|', b'\n', &mut frames);
-        let mut nodes = [0u8; 600];
-        let read = tree_text::reading::read_tree(&frames[..n], &mut nodes[..573]);
-        match read {
-            TreeRead::Nodes(count) => self.with_tree(nodes, 3 * (count as usize)).write_tree(rt),
-            TreeRead::Refused(r) => self.with_tree(nodes, 0).refuse(rt, r),
+        self.size = 0;
+        match tree_text::reading::read_tree(&frames[..n], &mut self.nodes[..573]) {
+            Ok(count) => {
+                self.size = 3 * usize::from(count);
+                self.write_tree(rt);
+            }
+            Err(r) => printing::print_refusal(rt, r),
         }
     }
 
-    fn take_bytes(self, digits: &[u8]) -> Kept {
-        let mut nodes = [0u8; 600];
-        let size = hex_bytes::put_bytes(digits, &mut nodes);
-        self.with_tree(nodes, size)
-    }
-
-    fn check(self, rt: &impl Print) -> Kept {
-        let plan = self.plan;
-        let nodes = self.nodes;
-        let answer = checker::check_tree(plan, lines::front(&nodes, self.size));
+    fn check(&self, rt: &impl Print) {
+        let answer = checker::check_tree(self.plan, self.tree());
         printing::print_judged(rt, b"yes", answer);
-        self
     }
 
-    fn decide(self, rt: &impl Print, digits: &[u8]) -> Kept {
-        let plan = self.plan;
-        let verdict = verdict::least_schedule(plan, reading::value_at(digits, 0));
-        let found = verdict.found;
-        let slots = verdict.slots;
-        printing::print_found(rt, found);
+    fn decide(&self, rt: &impl Print, digits: &[u8]) {
+        let answer = verdict::least_schedule(self.plan, reading::value_at(digits, 0));
+        printing::print_found(rt, b"least", answer);
         printing::print(rt, b" ");
-        printing::print_eight(rt, slots);
-        self
+        match answer {
+            Ok(Some(slots)) => printing::print_eight(rt, slots),
+            _ => printing::print_eight(rt, [0; 8]),
+        }
     }
 
-    fn tabulate(self, rt: &impl Print, digits: &[u8]) -> Kept {
-        let plan = self.plan;
-        let table = differences::difference_table(plan, reading::value_at(digits, 0));
-        let tabled = table.tabled;
-        let rows = table.rows;
-        printing::print_tabled(rt, tabled);
+    fn tabulate(&self, rt: &impl Print, digits: &[u8]) {
+        let answer = differences::difference_table(self.plan, reading::value_at(digits, 0));
+        printing::print_found(rt, b"table", answer);
         printing::print(rt, b" ");
-        printing::print_rows(rt, rows);
-        self
+        match answer {
+            Ok(Some(table)) => printing::print_rows(rt, table.rows),
+            _ => printing::print_rows(rt, [Row::default(); 8]),
+        }
     }
 
-    fn screen(self, rt: &impl Print) -> Kept {
-        let plan = self.plan;
-        printing::print_screened(rt, verdict::screen::screen_plan(plan));
-        self
+    fn screen(&self, rt: &impl Print) {
+        printing::print_screened(rt, verdict::screen::screen_plan(self.plan));
     }
 
-    fn show(self, rt: &impl Print) -> Kept {
-        let plan = self.plan;
-        let nodes = self.nodes;
-        let history = self.history;
-        let shown = run::show(plan, lines::front(&nodes, self.size), history);
-        printing::print_shown(rt, shown);
-        self
+    fn show(&self, rt: &impl Print) {
+        printing::print_shown(rt, run::show(self.plan, self.tree(), self.history));
     }
 
-    fn report(self, rt: &impl Print, digits: &[u8]) -> Kept {
-        let plan = self.plan;
-        let nodes = self.nodes;
-        let history = self.history;
+    fn report(&mut self, rt: &impl Print, digits: &[u8]) {
         let mask = reading::value_at(digits, 0);
-        let reported = history.report(plan, lines::front(&nodes, self.size), mask);
-        let answer = reported.answer;
-        let handed_back = reported.history;
-        printing::print_judged(rt, b"fine", answer);
+        let reported = self.history.report(self.plan, self.tree(), mask);
+        self.history = reported.history;
+        printing::print_judged(rt, b"fine", reported.answer);
         printing::print(rt, b" ");
-        printing::print_history(rt, handed_back);
-        self.with_history(handed_back)
+        printing::print_history(rt, self.history);
     }
 
-    // One line, without its line feed.
-    pub fn carry_out(self, rt: &impl Print, line: &[u8]) -> Kept {
+    // One line, without its line feed. (A table of functions would need each of them to take what only some of them use.)
+    pub fn carry_out(&mut self, rt: &impl Print, line: &[u8]) {
         let given = lines::behind(line, 2);
         match bytes::byte_or_zero(line, 0) {
-            b'#' => self.say(rt, line),
+            b'#' => printing::print(rt, line),
             b'p' => self.read_plan(rt, given),
-            b'r' => self.with_plan(hex_bytes::record_in(given)).write_plan(rt),
+            b'r' => {
+                self.plan = hex_bytes::record_in(given);
+                self.write_plan(rt);
+            }
             b't' => self.read_tree(rt, given),
-            b'b' => self.take_bytes(given).write_tree(rt),
+            b'b' => {
+                self.size = hex_bytes::put_bytes(given, &mut self.nodes);
+                self.write_tree(rt);
+            }
             b'c' => self.check(rt),
             b'm' => self.decide(rt, given),
             b'd' => self.tabulate(rt, given),
             b's' => self.screen(rt),
-            b'h' => self.with_history(hex_bytes::history_in(given)).show(rt),
+            b'h' => {
+                self.history = hex_bytes::history_in(given);
+                self.show(rt);
+            }
             b'i' => self.show(rt),
             b'o' => self.report(rt, given),
-            _ => self.say(rt, b"?"),
+            _ => printing::print(rt, b"?"),
         }
     }
 }

@@ -6,7 +6,5 @@ fn main(rt: HostRuntime) {
     let mut input = [0u8; 1026];
     let n = system::read_full(&mut rt.stdin(), &mut input);
     let answer = answer_text::answer_to(&input[..n]);
-    let text = answer.bytes;
-    let length = answer.length;
-    system::print(&rt, &text[..length]);
+    system::print(&rt, &answer.bytes[..answer.length]);
 }

@@ -4,27 +4,20 @@
 
 use std::io;
 
+// 4,096 bytes are read, so that the answer itself has to leave out what comes after the first 1,026.
+fn answer_file(rt: &HostRuntime, name: &[u8]) -> io::Result<()> {
+    let mut file = system::open_read(rt, name)?;
+    let mut input = [0u8; 4096];
+    let n = system::read_full(&mut file, &mut input);
+    let answer = answer_text::answer_to(&input[..n]);
+    system::print(rt, &answer.bytes[..answer.length]);
+    Ok(())
+}
+
 // A line to standard error: the file's name, and why it was not opened.
 fn fail(errors: &impl Print, name: &[u8], why: io::Error) {
     system::print(errors, name);
     let _ = errors.println(format_args!(": {why}"));
-}
-
-// 4,096 bytes are read, so that the answer itself has to leave out what comes after the first 1,026.
-fn answer_file(rt: &HostRuntime, name: &[u8]) {
-    let mut file = match system::open_read(rt, name) {
-        Ok(file) => file,
-        Err(why) => {
-            fail(&rt.stderr(), name, why);
-            return;
-        }
-    };
-    let mut input = [0u8; 4096];
-    let n = system::read_full(&mut file, &mut input);
-    let answer = answer_text::answer_to(&input[..n]);
-    let text = answer.bytes;
-    let length = answer.length;
-    system::print(rt, &text[..length]);
 }
 
 // The file that argument i names.
@@ -33,14 +26,13 @@ fn answer_argument(rt: &HostRuntime, i: usize) {
     let n = system::argument(rt, i, &mut name);
     system::print(rt, &name[..n]);
     system::print(rt, b"\n");
-    answer_file(rt, &name[..n]);
+    if let Err(why) = answer_file(rt, &name[..n]) {
+        fail(&rt.stderr(), &name[..n], why);
+    }
 }
 
 fn main(rt: HostRuntime) {
-    let n = system::argument_count(&rt);
-    let mut i: usize = 1;
-    while i < n {
+    for i in 1..system::argument_count(&rt) {
         answer_argument(&rt, i);
-        i += 1;
     }
 }
