@@ -17,6 +17,9 @@ pub struct Declared {
     pub names: Vec<(String, Vec<String>)>,
 }
 
+/// The types of std that every file has in scope: they are std's, and no page shows them.
+const PRELUDE: [&str; 2] = ["Option", "Result"];
+
 /// The type of this crate at a place: the modules that lead to it, and its name.
 pub fn declared(root: &Path, krate: &str, place: &[String]) -> Result<Declared, String> {
     let (name, modules) = place.split_last().ok_or("a type without a name")?;
@@ -30,7 +33,8 @@ pub fn declared(root: &Path, krate: &str, place: &[String]) -> Result<Declared, 
     let at = at.ok_or_else(|| format!("{krate}/{file} declares no {name}"))?;
     let above = lines[..at].iter().rev().take_while(|l| l.starts_with("//") || l.starts_with("#[")).count();
     let end = at + lines[at..].iter().position(|l| *l == "}").map_or(1, |n| n + 1);
-    let names = types(&lines[at..end]).into_iter().filter(|t| t != name);
+    let std = |t: &String| PRELUDE.contains(&t.as_str()) && place_of(&lines, krate, modules, t).is_none();
+    let names = types(&lines[at..end]).into_iter().filter(|t| t != name && !std(t));
     let names = names.map(|t| {
         let place = place_of(&lines, krate, modules, &t);
         place.ok_or_else(|| format!("{krate}/{file}: {name} names {t}, which is not resolved"))
