@@ -44,7 +44,7 @@ module _ (h : History) where
   pub count_faulty : 8 < h.count → false ≡ history_fine h
   count_faulty lt = by_test (history_fine h) (λ y. let le = count_fine y in absurd (omega arith)) (λ z. rw z)
 
-  mask_faulty : (i : ℕ) → h.count ≤ i → i < 8 → ¬ (get_or h.masks i 0 ≡ 0) → false ≡ history_fine h
+  pub mask_faulty : (i : ℕ) → h.count ≤ i → i < 8 → ¬ (get_or h.masks i 0 ≡ 0) → false ≡ history_fine h
   mask_faulty i ge lt ne = by_test (history_fine h) (λ y. absurd (ne (unused_zero y i ge lt))) (λ z. rw z)
 
   -- the code looks whether all masks past the count are zero

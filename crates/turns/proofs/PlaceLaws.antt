@@ -63,10 +63,10 @@ module _ (p : Plan) (wf : WellFormed p) (at : Position) (ok : Proper p at) where
   module _ (xs : List ℕ) (fits : 3 * most (network_of p) s ≤ length xs) where
     -- no point is left
     module _ (end : at.left ≡ 0) (b : Bool) (said : b ≡ keeps_so_far_in p at) where
-      ends_won : b ≡ true → AgentAt p at (Some 0) xs xs
+      pub ends_won : b ≡ true → AgentAt p at (Some 0) xs xs
       ends_won y = turns.ends_won (network_of p) s xs fits ((over_is_zero p wf at ok).0 end) (sym (said ∙ end_is p wf at ok end) ∙ y)
 
-      ends_lost : b ≡ false → AgentAt p at None xs xs
+      pub ends_lost : b ≡ false → AgentAt p at None xs xs
       ends_lost z = turns.ends_lost (network_of p) s xs fits ((over_is_zero p wf at ok).0 end) (sym (said ∙ end_is p wf at ok end) ∙ z)
 
       pub ends_found : (r : Option ℕ) → r ≡ then_some b 0 → AgentAt p at r xs xs

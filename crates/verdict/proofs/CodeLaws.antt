@@ -102,7 +102,7 @@ module _ (cap : ℕ) (cs : List Constraint) (s : Scenario) where
 -- ---- the verdict
 
 module _ (net : Network) (s : Scenario) (slots : List ℕ) (e : slots ≡ least_slots (net.horizon + 1) net s) where
-  is_fixed : fixed net slots ≡ verdict_of net s
+  pub is_fixed : fixed net slots ≡ verdict_of net s
   unfolding verdict_of
   is_fixed = ap (fixed net) (e ∙ ap (λ (cap : ℕ). least_slots cap net s) (add-one net.horizon))
 
