@@ -1,4 +1,5 @@
--- Laws: the modules of this folder. Only the checker need believe them.
+-- Laws and theorems: the modules of this folder. Only the checker need believe them.
 pub mod NumberLaws
+pub mod PlacesTheorems
 pub mod StepLaws
 pub mod TableLaws

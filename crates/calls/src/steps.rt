@@ -1,12 +1,12 @@
 // What a line of a case file does: the call that it names, whose answer is printed, and what is kept for the lines behind it.
 use crate::{hex_bytes, lines, printing};
-use differences::Row;
+use answers::places;
 use frame::reading;
 use plan::{Plan, bytes};
 use run::History;
 
 // A plan, the bytes of a tree (the first `size` of `nodes`: there is no heap, and the tree is kept from line to line) and a history.
-#[derive(Drop)]
+#[derive(Clone, Copy)]
 pub struct Kept {
     plan: Plan,
     nodes: [u8; 600],
@@ -45,15 +45,11 @@ impl Kept {
     fn read_plan(&mut self, rt: &impl Print, text: &[u8]) {
         let mut frames = [0u8; 65536];
         let n = lines::put_exchanged(text, b'|', b'\n', &mut frames);
-        match plan_text::reading::read_plan(&frames[..n]) {
-            Ok(plan) => {
-                self.plan = plan;
-                self.write_plan(rt);
-            }
-            Err(r) => {
-                self.plan = plan::zero_plan();
-                printing::print_refusal(rt, r);
-            }
+        let read = plan_text::reading::read_plan(&frames[..n]);
+        self.plan = places::plan_of(read);
+        match read {
+            Ok(_) => self.write_plan(rt),
+            Err(r) => printing::print_refusal(rt, r),
         }
     }
 
@@ -79,20 +75,14 @@ impl Kept {
         let answer = verdict::least_schedule(self.plan, reading::value_at(digits, 0));
         printing::print_found(rt, b"least", answer);
         printing::print(rt, b" ");
-        match answer {
-            Ok(Some(slots)) => printing::print_eight(rt, slots),
-            _ => printing::print_eight(rt, [0; 8]),
-        }
+        printing::print_eight(rt, places::slots_of(answer));
     }
 
     fn tabulate(&self, rt: &impl Print, digits: &[u8]) {
         let answer = differences::difference_table(self.plan, reading::value_at(digits, 0));
         printing::print_found(rt, b"table", answer);
         printing::print(rt, b" ");
-        match answer {
-            Ok(Some(table)) => printing::print_rows(rt, table.rows),
-            _ => printing::print_rows(rt, [Row::default(); 8]),
-        }
+        printing::print_rows(rt, places::rows_of(answer));
     }
 
     fn screen(&self, rt: &impl Print) {
